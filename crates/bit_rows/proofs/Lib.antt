@@ -1,0 +1,5 @@
+pub mod Blocks
+pub mod Counts
+pub mod NextPlaces
+pub mod Packed
+pub mod Subsets

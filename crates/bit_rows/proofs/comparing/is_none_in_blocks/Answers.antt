@@ -1,0 +1,20 @@
+use Rattle.std.proofs.Common.{◌*◌, ◌+◌, ◌≡◌, sym, ◌∙◌, arith}
+use Rattle.std.proofs.lemmas.Bool.{true≢false, false≢true}
+use Rattle.bit_rows.proofs.Blocks.{none_in_block, zero_from_none, none_more}
+use Rattle.bit_rows.proofs.comparing.is_none_in_blocks.Goals as goal
+
+pub returns-then-has_bits : goal.returns-then-has_bits
+returns-then-has_bits g c =
+    let at = 8 * c.loop-block.block in (
+      λ e. absurd (false≢true e),
+      λ none. absurd (true≢false (sym c.if-has_bits.true ∙ c.has_bits.ensures.1 (zero_from_none g.O.WordOperation.word c.args.words.now c.args.others.now _ _ _ at
+          (omega arith) c.requires c.block_at-own.ensures c.block_at-other.ensures c.apply_to_lanes.ensures (λ k low high. none k (omega arith) (omega arith))))),
+    )
+
+pub loop-block-preserved : goal.loop-block-preserved
+loop-block-preserved g c =
+    let at = 8 * c.loop-block.block in
+    let more : 8 * (c.loop-block.block + 1) ≡ at + 8 = omega arith in
+    let here = none_in_block g.O.WordOperation.word c.args.words.now c.args.others.now _ _ _ at
+    (omega arith) c.requires c.block_at-own.ensures c.block_at-other.ensures c.apply_to_lanes.ensures (c.has_bits.ensures.0 c.if-has_bits.false) in
+    rw more (none_more g.O.WordOperation.word c.args.words.now c.args.others.now 0 at (at + 8) c.loop-block.invariant here)

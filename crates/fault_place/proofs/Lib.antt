@@ -1,0 +1,2 @@
+mod FaultOrder
+mod StableSort

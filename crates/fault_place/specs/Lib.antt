@@ -1,0 +1,5 @@
+pub mod formers
+pub mod Fault
+pub mod Limit
+pub mod Order
+pub mod Place

@@ -1,0 +1,12 @@
+//! What threads share may be sent to any of them and read by all at once.
+
+use crate::{Bytes, Fault, Seq, Text};
+
+fn is_shared<T: Send + Sync>(_value: &T) {}
+
+fn are_shared<T: Send + Sync>(text: &Text, bytes: &Bytes, fault: &Fault, list: &Seq<T>) {
+    is_shared(text);
+    is_shared(bytes);
+    is_shared(fault);
+    is_shared(list);
+}

@@ -1,0 +1,10 @@
+pub mod Additions
+pub mod Cause
+pub mod Cut
+pub mod Failures
+pub mod MemReaders
+pub mod Readings
+pub mod Reads
+pub mod Sinks
+pub mod Tree
+pub mod Walk

@@ -1,0 +1,75 @@
+-- Readers of a tree in memory (this project).
+use Rattle.std.specs.Prelude.{◌≡◌, ◌≤◌, ◌||◌, ℕ, Bool, List, [], ◌++◌, bytes_eq, Result, Some, unwrap_or, if◌then◌else◌, refl}
+use Rattle.std.proofs.Common.{sym, ap, subst, ◌∙◌, arith, append-nil, append_assoc}
+use Rattle.std.specs.List.{list_any}
+use Rattle.outside.specs.Cause.{risen}
+use Rattle.outside.specs.Failures.{Plan, fresh, TakesTurn}
+use Rattle.outside.specs.Tree.{Tree, IsTree}
+use Rattle.outside.specs.declared.entry.Why.{Why}
+use Rattle.outside.specs.declared.outside_end.OutsideEnd.{OutsideEnd}
+
+-- the tree, the plan of failures, the paths of which each read fails, the log, and how often a path wasn't in the tree
+pub record Reading : Type 0 where
+  pub tree : Tree
+  pub plan : Plan
+  pub paths : List (List ℕ)
+  pub log : List (List ℕ × Why)
+  pub strays : ℕ
+
+-- a reader before its first call
+abbrev pub first_reading : Tree → List ℕ → List (List ℕ) → Reading
+first_reading tree calls paths = record { tree = tree; plan = fresh calls; paths = paths; log = []; strays = 0 }
+
+-- each read of the path fails
+abbrev pub fails_in : List (List ℕ) → List ℕ → Bool
+fails_in paths path = list_any (λ other. bytes_eq other path) paths
+
+-- fails in strays alone
+pub record IsUnfailing (reader : Reading) : Type 0 where
+  pub calls : reader.plan.calls ≡ []
+  pub paths : reader.paths ≡ []
+  pub faults : reader.plan.faults ≡ reader.strays
+
+-- the second is the first after some calls
+pub record Follows (before now : Reading) : Type 0 where
+  pub tree : now.tree ≡ before.tree
+  pub calls : now.plan.calls ≡ before.plan.calls
+  pub paths : now.paths ≡ before.paths
+  pub call : before.plan.call ≤ now.plan.call
+  pub faults : before.plan.faults ≤ now.plan.faults
+  pub strays : before.strays ≤ now.strays
+  pub log : (more : List (List ℕ × Why)) × (now.log ≡ before.log ++ more)
+  pub unfailing : IsUnfailing before → IsUnfailing now
+
+-- The answer is `Failed` exactly in a stray, where the plan says so and where there is another reason.
+-- A fault is counted with each, and a stray with each stray.
+pub record TakesReaderTurn {T : Type 0} (stray reason : Bool) (old new : Reading) (result : Result T OutsideEnd) : Type 0 where
+  pub plan : TakesTurn (stray || reason) old.plan new.plan result
+  pub strays : new.strays ≡ (if stray then risen old.strays else old.strays)
+
+pub follows_itself : (reader : Reading) → Follows reader reader
+follows_itself reader = record {
+  tree = refl;
+  calls = refl;
+  paths = refl;
+  call = omega arith;
+  faults = omega arith;
+  strays = omega arith;
+  log = ([], sym (append-nil reader.log));
+  unfailing = λ unfailing. unfailing;
+}
+
+pub follows_on : (one two three : Reading) → Follows one two → Follows two three → Follows one three
+follows_on one two three first second = record {
+  tree = second.tree ∙ first.tree;
+  calls = second.calls ∙ first.calls;
+  paths = second.paths ∙ first.paths;
+  call = omega arith;
+  faults = omega arith;
+  strays = omega arith;
+  log = (first.log.0 ++ second.log.0, second.log.1 ∙ ap (λ log. log ++ second.log.0) first.log.1 ∙ append_assoc one.log first.log.0 second.log.0);
+  unfailing = λ unfailing. second.unfailing (first.unfailing unfailing);
+}
+
+pub told_tree : (tree told : Tree) → Some tree ≡ Some told → IsTree tree → IsTree told
+told_tree tree told same is = subst IsTree (ap (λ one. unwrap_or one tree) same) is

@@ -1,0 +1,80 @@
+ghost use Rattle.std.specs.Prelude.{◌≡◌, [], false};
+ghost use Rattle.outside.specs.Cause.{HasCause};
+ghost use Rattle.outside.specs.Failures.{empty, TakesTurn};
+ghost use Rattle.outside.specs.Sinks.{Adds, asset};
+
+use crate::failure_plan::FailurePlan;
+use crate::{Asset, AssetSink, OutsideEnd};
+use fault_place::{Bytes, Text};
+use std::alloc::Global;
+use std::marker::Model;
+
+/// A sink that keeps the assets, which contracts see as them and the calls in which it fails.
+#[derive(Debug, Drop)]
+pub struct MemSink {
+    held: Vec<Asset>,
+    plan: FailurePlan,
+}
+
+impl Model for MemSink {
+    ghost use Rattle.outside.specs.Failures.{Taken};
+    ghost use Rattle.outside.specs.declared.asset_sink.Asset.{Asset};
+
+    ghost Value = { Taken Asset };
+
+    ghost view = { λ sink. record { members = sink.held.items; plan = sink.plan } };
+}
+
+impl MemSink {
+    /// A sink that never fails. Takes no memory.
+    pub fn new(alloc: Global) -> MemSink
+        ensures { result ≡ empty [] }
+    {
+        MemSink::failing(alloc, Vec::new(alloc))
+    }
+
+    /// A sink that fails in the calls with these numbers, which count from 0. Takes no memory.
+    pub fn failing(alloc: Global, calls: Vec<u64>) -> MemSink
+        ensures { result ≡ empty calls.items }
+    {
+        MemSink {
+            held: Vec::new(alloc),
+            plan: FailurePlan::new(calls),
+        }
+    }
+
+    /// The assets that it has taken, in order. Takes no memory.
+    pub fn held(&self) -> &[Asset]
+        ensures { result.now ≡ self.now.members }
+    {
+        self.held.as_slice()
+    }
+}
+
+impl AssetSink for MemSink {
+    ghost use Rattle.std.specs.Prelude.{Some};
+
+    ghost held = { λ sink. Some sink.members };
+
+    ghost faults = { λ sink. sink.plan.faults };
+
+    fn put(&mut self, alloc: Global, name: &str, bytes: &[u8]) -> Result<(), OutsideEnd>
+        ensures held { Adds (Some self.old.members) (Some self.new.members) (asset name.now bytes.now) result }
+        ensures cause { HasCause self.old.plan.faults self.new.plan.faults result }
+        ensures turn { TakesTurn false self.old.plan self.new.plan result }
+    {
+        if self.plan.fails_now() {
+            self.plan.fail();
+            return Err(OutsideEnd::Failed);
+        }
+        let name = Text::new(alloc, name)?;
+        let bytes = Bytes::new(alloc, bytes)?;
+        self.held.push(Asset { name, bytes })?;
+        self.plan.pass();
+        Ok(())
+    }
+
+    fn faults(&self) -> u64 {
+        self.plan.faults()
+    }
+}

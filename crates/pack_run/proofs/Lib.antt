@@ -1,0 +1,4 @@
+pub mod Ends
+pub mod Listings
+pub mod Readers
+pub mod Requests

@@ -1,0 +1,12 @@
+pub mod Config
+pub mod End
+pub mod Report
+pub mod Requests
+pub mod Rose
+pub mod Run
+pub mod Runtime
+pub mod Stats
+pub mod Stop
+pub mod Texts
+pub mod Verdict
+pub mod Words

@@ -1,0 +1,24 @@
+//! The top call: words, configuration, tree, modules and assets of a build.
+#![tactic(auto)]
+
+mod append;
+mod config;
+mod decide;
+mod end;
+mod entry_text;
+mod module;
+mod output;
+mod report;
+mod request;
+mod runtime;
+mod stats;
+mod stop;
+mod top;
+mod verdict;
+mod verdict_lines;
+mod words;
+
+pub use config::ConfigKind;
+pub use end::End;
+pub use top::run;
+pub use verdict::{Build, Verdict};

@@ -1,0 +1,73 @@
+ghost use Rattle.std.specs.Prelude.{◌≡◌, ◌≢◌, ◌≤◌, OnOk};
+ghost use Rattle.outside.specs.Cause.{Rose, HasCause};
+ghost use Rattle.outside.specs.Sinks.{HasAdded};
+ghost use Rattle.pack_run.specs.End.{OnVerdict, OnNothingPut};
+ghost use Rattle.pack_run.specs.Report.{Tells, CanReport};
+ghost use Rattle.pack_run.specs.Verdict.{end_of, assets_of};
+
+use crate::output::{print_all, put_all};
+use crate::verdict_lines::verdict_lines;
+use crate::{End, Verdict};
+use outside::{AssetSink, LineSink, OutsideEnd};
+use std::alloc::Global;
+
+fn end_of(verdict: &Verdict) -> End
+    requires { CanReport verdict.now }
+    ensures { result ≡ end_of verdict.now }
+{
+    match verdict {
+        Verdict::Usage => End::Usage,
+        Verdict::Missing => End::ReadFault,
+        Verdict::Config { .. } => End::Config,
+        Verdict::Limit(limit) => End::Limit(*limit),
+        Verdict::Faults(faults) => End::Faults(faults.as_slice().len() as u32),
+        Verdict::Built(_) => End::Built,
+    }
+}
+
+/// Puts the assets of a verdict, where it has some.
+fn put_assets<S: AssetSink>(
+    alloc: Global,
+    verdict: &Verdict,
+    sink: &mut S,
+) -> Result<(), OutsideEnd>
+    ensures held { OnOk result (HasAdded (S.held sink.old) (S.held sink.new) (assets_of verdict.now)) }
+    ensures cause { HasCause (S.faults sink.old) (S.faults sink.new) result }
+    ensures nothing { OnNothingPut (end_of verdict.now) (S.held sink.new ≡ S.held sink.old) }
+{
+    match verdict {
+        Verdict::Built(build) => put_all(alloc, sink, build.assets.as_slice()),
+        _ => Ok(()),
+    }
+}
+
+/// Puts the assets of a verdict and prints its lines.
+pub fn report<S: AssetSink, L: LineSink>(
+    alloc: Global,
+    verdict: &Verdict,
+    sink: &mut S,
+    lines: &mut L,
+) -> End
+    requires { CanReport verdict.now }
+    ensures tells { OnVerdict result
+        (Tells verdict.now (S.held sink.old) (S.held sink.new) (L.lines lines.old) (L.lines lines.new) result) }
+    ensures never_reads { result ≢ End.ReadFault }
+    ensures write_cause { result ≡ End.WriteFault → Rose (S.faults sink.old) (S.faults sink.new) }
+    ensures line_cause { result ≡ End.LineFault → Rose (L.faults lines.old) (L.faults lines.new) }
+    ensures nothing { OnNothingPut (end_of verdict.now) (S.held sink.new ≡ S.held sink.old) }
+    ensures lines_fall { L.faults lines.old ≤ L.faults lines.new }
+{
+    match put_assets(alloc, verdict, sink) {
+        Ok(()) => {}
+        Err(OutsideEnd::Failed) => return End::WriteFault,
+        Err(OutsideEnd::NoMemory) => return End::NoMemory,
+    }
+    let Ok(texts) = verdict_lines(alloc, verdict) else {
+        return End::NoMemory;
+    };
+    match print_all(alloc, lines, &texts) {
+        Ok(()) => end_of(verdict),
+        Err(OutsideEnd::Failed) => End::LineFault,
+        Err(OutsideEnd::NoMemory) => End::NoMemory,
+    }
+}

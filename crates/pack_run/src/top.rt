@@ -1,0 +1,119 @@
+ghost use Rattle.std.specs.Prelude.{◌≡◌, ◌<◌, ◌≤◌, map, string_bytes, vec_len};
+ghost use Rattle.std.specs.List.{AllZip};
+ghost use Rattle.outside.specs.Cause.{Rose};
+ghost use Rattle.outside.specs.Tree.{Tree, Told};
+ghost use Rattle.pack_run.specs.End.{OnVerdict, OnNothingPut};
+ghost use Rattle.pack_run.specs.Rose.{AnyZip};
+ghost use Rattle.pack_run.specs.Run.{EndsBy, AllTell};
+
+use crate::End;
+use crate::decide::decide;
+use crate::report::report;
+use crate::stop::Stop;
+use outside::{AssetSink, LineSink, TreeReader};
+use std::alloc::Global;
+use std::thread::Threads;
+
+/// Decides by one reader and reports.
+fn answer<R: TreeReader, S: AssetSink, L: LineSink>(
+    alloc: Global,
+    words: &[String],
+    reader: &mut R,
+    sink: &mut S,
+    lines: &mut L,
+) -> End
+    ensures follows { R.follows reader.old reader.new }
+    ensures read_cause { result ≡ End.ReadFault → Rose (R.faults reader.old) (R.faults reader.new) }
+    ensures write_cause { result ≡ End.WriteFault → Rose (S.faults sink.old) (S.faults sink.new) }
+    ensures line_cause { result ≡ End.LineFault → Rose (L.faults lines.old) (L.faults lines.new) }
+    ensures nothing_put { OnNothingPut result (S.held sink.new ≡ S.held sink.old) }
+    ensures verdict { Told (R.tree reader.old) (λ tree. EndsBy (map string_bytes words.now) tree
+        (S.held sink.old) (S.held sink.new) (L.lines lines.old) (L.lines lines.new) result) }
+{
+    match decide(alloc, words, reader) {
+        Ok(verdict) => report(alloc, &verdict, sink, lines),
+        Err(Stop::ReadFault) => End::ReadFault,
+        Err(Stop::NoMemory) => End::NoMemory,
+    }
+}
+
+/// The whole of a command by one reader.
+fn run_by<R: TreeReader, S: AssetSink, L: LineSink>(
+    alloc: Global,
+    words: &[String],
+    reader: &mut R,
+    sink: &mut S,
+    lines: &mut L,
+) -> End
+    ensures follows { R.follows reader.old reader.new }
+    ensures read_cause { result ≡ End.ReadFault → Rose (R.faults reader.old) (R.faults reader.new) }
+    ensures write_cause { result ≡ End.WriteFault → Rose (S.faults sink.old) (S.faults sink.new) }
+    ensures line_cause { result ≡ End.LineFault → Rose (L.faults lines.old) (L.faults lines.new) }
+    ensures nothing_put { OnNothingPut result (S.held sink.new ≡ S.held sink.old) }
+    ensures verdict { Told (R.tree reader.old) (λ tree. EndsBy (map string_bytes words.now) tree
+        (S.held sink.old) (S.held sink.new) (L.lines lines.old) (L.lines lines.new) result) }
+{
+    let end = answer(alloc, words, reader, sink, lines);
+    last_line(alloc, end, lines);
+    end
+}
+
+/// Tries the line of an end that has no verdict.
+fn last_line<L: LineSink>(alloc: Global, end: End, lines: &mut L)
+    ensures same { OnVerdict end (L.lines lines.new ≡ L.lines lines.old) }
+    ensures never_falls { L.faults lines.old ≤ L.faults lines.new }
+{
+    let text: &[u8] = match end {
+        End::ReadFault => b"read failed",
+        End::WriteFault => b"write failed",
+        End::NoMemory => b"no memory",
+        _ => return,
+    };
+    let _ = lines.line(alloc, text);
+}
+
+/// The whole of a command by the first of the readers.
+fn run_first<R: TreeReader, S: AssetSink, L: LineSink>(
+    alloc: Global,
+    words: &[String],
+    readers: &mut Vec<R>,
+    sink: &mut S,
+    lines: &mut L,
+) -> End
+    requires { 0 < vec_len readers.old }
+    ensures follows { AllZip R.follows readers.old.items readers.new.items }
+    ensures read_cause { result ≡ End.ReadFault → AnyZip (λ old new. Rose (R.faults old) (R.faults new)) readers.old.items readers.new.items }
+    ensures write_cause { result ≡ End.WriteFault → Rose (S.faults sink.old) (S.faults sink.new) }
+    ensures line_cause { result ≡ End.LineFault → Rose (L.faults lines.old) (L.faults lines.new) }
+    ensures nothing_put { OnNothingPut result (S.held sink.new ≡ S.held sink.old) }
+    ensures verdict { (tree : Tree) → AllTell R.tree readers.old.items tree → EndsBy (map string_bytes words.now) tree
+        (S.held sink.old) (S.held sink.new) (L.lines lines.old) (L.lines lines.new) result }
+{
+    let reader = &mut readers[0];
+    run_by(alloc, words, reader, sink, lines)
+}
+
+/// Carries out a command.
+///
+/// The words are `build` and the path of the configuration. All that is read lies under the root that the readers read;
+/// today the first of them reads it all. The assets go to the sink in order, and the lines of the end to `lines`.
+pub fn run<R: TreeReader + Send, S: AssetSink, L: LineSink, Rt: Threads + Sync>(
+    rt: &Rt,
+    alloc: Global,
+    words: &[String],
+    readers: &mut Vec<R>,
+    sink: &mut S,
+    lines: &mut L,
+) -> End
+    requires { 0 < vec_len readers.old }
+    ensures follows { AllZip R.follows readers.old.items readers.new.items }
+    ensures read_cause { result ≡ End.ReadFault → AnyZip (λ old new. Rose (R.faults old) (R.faults new)) readers.old.items readers.new.items }
+    ensures write_cause { result ≡ End.WriteFault → Rose (S.faults sink.old) (S.faults sink.new) }
+    ensures line_cause { result ≡ End.LineFault → Rose (L.faults lines.old) (L.faults lines.new) }
+    ensures nothing_put { OnNothingPut result (S.held sink.new ≡ S.held sink.old) }
+    ensures verdict { (tree : Tree) → AllTell R.tree readers.old.items tree → EndsBy (map string_bytes words.now) tree
+        (S.held sink.old) (S.held sink.new) (L.lines lines.old) (L.lines lines.new) result }
+{
+    let _ = rt;
+    run_first(alloc, words, readers, sink, lines)
+}

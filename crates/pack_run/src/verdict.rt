@@ -1,0 +1,27 @@
+use crate::ConfigKind;
+use fault_place::{Fault, Limit, Place, Seq};
+use outside::Asset;
+
+/// What a build of a tree comes to, whoever reads the tree and however often a call fails.
+#[derive(Debug, Drop)]
+pub enum Verdict {
+    /// The words aren't those of a build.
+    Usage,
+    /// The configuration isn't in the tree.
+    Missing,
+    /// The configuration's text has no meaning.
+    Config { place: Place, kind: ConfigKind },
+    /// The tree exceeds a limit.
+    Limit(Limit),
+    /// The faults in their order; there is at least one.
+    Faults(Seq<Fault>),
+    Built(Build),
+}
+
+/// What a build makes.
+#[derive(Debug, Drop)]
+pub struct Build {
+    pub modules: u32,
+    pub chunks: u32,
+    pub assets: Seq<Asset>,
+}

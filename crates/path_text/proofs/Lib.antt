@@ -1,0 +1,4 @@
+pub mod Children
+pub mod Names
+pub mod Parents
+pub mod Walks

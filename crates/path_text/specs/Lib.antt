@@ -1,0 +1,4 @@
+pub mod Answers
+pub mod Child
+pub mod Message
+pub mod Path

@@ -1,0 +1,9 @@
+pub mod Bounds
+pub mod Keeping
+pub mod Outcomes
+pub mod Paths
+pub mod Search
+pub mod Sorting
+pub mod Steps
+pub mod Trees
+pub mod Whole

@@ -1,0 +1,5 @@
+pub mod Ends
+pub mod Limits
+pub mod Listing
+pub mod Lists
+pub mod Walk
