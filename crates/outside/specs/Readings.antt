@@ -1,6 +1,6 @@
 -- Readers of a tree in memory (this project).
 use Rattle.std.specs.Prelude.{◌≡◌, ◌≤◌, ◌||◌, ℕ, Bool, List, [], ◌++◌, bytes_eq, Result, Some, unwrap_or, if◌then◌else◌, refl}
-use Rattle.std.proofs.Common.{sym, ap, subst, ◌∙◌, arith, append-nil, append_assoc}
+use Rattle.std.proofs.Common.{sym, ap, subst, ◌∙◌, le_refl, le_trans, append-nil, append_assoc}
 use Rattle.std.specs.List.{list_any}
 use Rattle.outside.specs.Cause.{risen}
 use Rattle.outside.specs.Failures.{Plan, fresh, TakesTurn}
@@ -52,9 +52,9 @@ follows_itself reader = record {
   tree = refl;
   calls = refl;
   paths = refl;
-  call = omega arith;
-  faults = omega arith;
-  strays = omega arith;
+  call = le_refl reader.plan.call;
+  faults = le_refl reader.plan.faults;
+  strays = le_refl reader.strays;
   log = ([], sym (append-nil reader.log));
   unfailing = λ unfailing. unfailing;
 }
@@ -64,9 +64,9 @@ follows_on one two three first second = record {
   tree = second.tree ∙ first.tree;
   calls = second.calls ∙ first.calls;
   paths = second.paths ∙ first.paths;
-  call = omega arith;
-  faults = omega arith;
-  strays = omega arith;
+  call = le_trans first.call second.call;
+  faults = le_trans first.faults second.faults;
+  strays = le_trans first.strays second.strays;
   log = (first.log.0 ++ second.log.0, second.log.1 ∙ ap (λ log. log ++ second.log.0) first.log.1 ∙ append_assoc one.log first.log.0 second.log.0);
   unfailing = λ unfailing. second.unfailing (first.unfailing unfailing);
 }

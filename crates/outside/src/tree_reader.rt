@@ -12,7 +12,7 @@ pub trait TreeReader: Drop {
     /// The tree that it reads, where it is told.
     ghost tree: { Self → Option Tree };
 
-    /// The paths that were read and what for, in order.
+    /// The paths that were read and what for, in order, where the tree is told.
     ghost log: { Self → List (List ℕ × Why) };
 
     /// How often it has failed; the count stands still at the last `u64`.
@@ -40,7 +40,7 @@ pub trait TreeReader: Drop {
         most: u64,
     ) -> Result<ReadGot, OutsideEnd>
         ensures follows { follows self.old self.new }
-        ensures log { log self.new ≡ log_after result (log self.old) path.now why }
+        ensures log { Told (tree self.old) (λ _. log self.new ≡ log_after result (log self.old) path.now why) }
         ensures cause { HasCause (faults self.old) (faults self.new) result }
         ensures within { IsWithin most result }
         ensures told { Told (tree self.old) (λ tree. Reads tree path.now most result (strays self.old) (strays self.new)) };

@@ -1,18 +1,57 @@
 -- What a command promises (this project).
-use Rattle.std.specs.Prelude.{◌≡◌, ℕ, List, map, Option, Some}
+use Rattle.std.specs.Prelude.{◌≡◌, ℕ, ◌<◌, ◌⊎◌, List, [], ◌∷◌, map, take, length, codes, Option, Some, None, is_some, IsTrue, ⊤}
 use Rattle.std.specs.List.{AllByRecursion}
-use Rattle.outside.specs.Tree.{Tree}
+use Rattle.outside.specs.Sinks.{HasAdded}
+use Rattle.outside.specs.Tree.{Tree, bytes_at}
 use Rattle.outside.specs.declared.asset_sink.Asset.{Asset}
-use Rattle.pack_run.specs.End.{OnVerdict}
-use Rattle.pack_run.specs.Report.{Tells}
-use Rattle.pack_run.specs.Verdict.{IsVerdict}
+use Rattle.pack_run.specs.Report.{Tells, AddsFront, AddsProperFront}
+use Rattle.pack_run.specs.Verdict.{IsVerdict, lines_of, assets_of}
+use Rattle.pack_run.specs.Words.{config_path}
 use Rattle.pack_run.specs.declared.end.End.{End}
+use Rattle.pack_run.specs.declared.end.End.TheVariants.{Built, Faults, Usage, Config, Limit, ReadFault, WriteFault, LineFault, NoMemory}
 use Rattle.pack_run.specs.declared.verdict.Verdict.{Verdict}
 
 -- An end that tells a verdict tells that of the words on the tree, and its lines and assets were added.
+-- A failed put leaves a proper front of the assets and no line; a failed line leaves all assets and a proper front of the
+-- lines. Where memory ran out, nothing was added, or a front of the verdict's assets and of its lines.
+abbrev pub Ends : List (List ℕ) → Tree → Option (List Asset) → Option (List Asset) → Option (List (List ℕ)) → Option (List (List ℕ)) → End → Type 0
+Ends words tree held held' lines lines' Built = (verdict : Verdict) × IsVerdict words tree verdict × Tells verdict held held' lines lines' Built
+Ends words tree held held' lines lines' (Faults count) = (verdict : Verdict) × IsVerdict words tree verdict × Tells verdict held held' lines lines' (Faults count)
+Ends words tree held held' lines lines' Usage = (verdict : Verdict) × IsVerdict words tree verdict × Tells verdict held held' lines lines' Usage
+Ends words tree held held' lines lines' Config = (verdict : Verdict) × IsVerdict words tree verdict × Tells verdict held held' lines lines' Config
+Ends words tree held held' lines lines' (Limit limit) = (verdict : Verdict) × IsVerdict words tree verdict × Tells verdict held held' lines lines' (Limit limit)
+Ends words tree held held' lines lines' ReadFault = (held' ≡ held) × (lines' ≡ lines)
+Ends words tree held held' lines lines' WriteFault =
+    (verdict : Verdict) × IsVerdict words tree verdict × AddsProperFront held held' (assets_of verdict) × (lines' ≡ lines)
+Ends words tree held held' lines lines' LineFault =
+    (verdict : Verdict) × IsVerdict words tree verdict × HasAdded held held' (assets_of verdict) × AddsProperFront lines lines' (lines_of verdict)
+Ends words tree held held' lines lines' NoMemory =
+    ((held' ≡ held) × (lines' ≡ lines))
+    ⊎ ((verdict : Verdict) × IsVerdict words tree verdict × AddsFront held held' (assets_of verdict) × AddsFront lines lines' (lines_of verdict))
+
+-- one line was added, or none
+abbrev pub TriesLine : List ℕ → Option (List (List ℕ)) → Option (List (List ℕ)) → Type 0
+TriesLine line lines lines' = (lines' ≡ lines) ⊎ HasAdded lines lines' (line ∷ [])
+
+-- the line of an end that tells no verdict is tried once
+abbrev pub TriesLast : End → Option (List (List ℕ)) → Option (List (List ℕ)) → Type 0
+TriesLast ReadFault lines lines' = TriesLine (codes "read failed") lines lines'
+TriesLast WriteFault lines lines' = TriesLine (codes "write failed") lines lines'
+TriesLast NoMemory lines lines' = TriesLine (codes "no memory") lines lines'
+TriesLast end lines lines' = lines' ≡ lines
+
+-- What a command leaves: what its end says, and then the line that may be tried last.
 abbrev pub EndsBy : List (List ℕ) → Tree → Option (List Asset) → Option (List Asset) → Option (List (List ℕ)) → Option (List (List ℕ)) → End → Type 0
-EndsBy words tree held_before held_now lines_before lines_now end =
-    OnVerdict end ((verdict : Verdict) × IsVerdict words tree verdict × Tells verdict held_before held_now lines_before lines_now end)
+EndsBy words tree held held' lines lines' end =
+    (between : Option (List (List ℕ))) × Ends words tree held held' lines between end × TriesLast end between lines'
+
+-- the configuration that the words name is in the tree, where they name one
+abbrev pub IsThere : Tree → Option (List ℕ) → Type 0
+IsThere tree None = ⊤
+IsThere tree (Some config) = IsTrue (is_some (bytes_at tree config))
+
+abbrev pub HasConfig : List (List ℕ) → Tree → Type 0
+HasConfig words tree = IsThere tree (config_path words)
 
 -- all readers tell the tree
 abbrev pub AllTell : {R : Type 0} → (R → Option Tree) → List R → Tree → Type 0

@@ -1,7 +1,8 @@
 //! Assets and lines, handed out in order until one is refused.
-ghost use Rattle.std.specs.Prelude.{◌≡◌, OnOk, take};
+ghost use Rattle.std.specs.Prelude.{◌≡◌, OnOk, OnErr};
 ghost use Rattle.outside.specs.Cause.{HasCause};
 ghost use Rattle.outside.specs.Sinks.{HasAdded};
+ghost use Rattle.pack_run.specs.Report.{AddsProperFront};
 
 use fault_place::Bytes;
 use outside::{Asset, AssetSink, LineSink, OutsideEnd};
@@ -14,6 +15,7 @@ pub fn put_all<S: AssetSink>(
     assets: &[Asset],
 ) -> Result<(), OutsideEnd>
     ensures held { OnOk result (HasAdded (S.held sink.old) (S.held sink.new) assets.now) }
+    ensures front { OnErr result (AddsProperFront (S.held sink.old) (S.held sink.new) assets.now) }
     ensures cause { HasCause (S.faults sink.old) (S.faults sink.new) result }
 {
     for asset in assets {
@@ -29,6 +31,7 @@ pub fn print_all<L: LineSink>(
     texts: &[Bytes],
 ) -> Result<(), OutsideEnd>
     ensures lines { OnOk result (HasAdded (L.lines lines.old) (L.lines lines.new) texts.now) }
+    ensures front { OnErr result (AddsProperFront (L.lines lines.old) (L.lines lines.new) texts.now) }
     ensures cause { HasCause (L.faults lines.old) (L.faults lines.new) result }
 {
     for text in texts {

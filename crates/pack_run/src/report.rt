@@ -1,8 +1,8 @@
-ghost use Rattle.std.specs.Prelude.{◌≡◌, ◌≢◌, ◌≤◌, OnOk};
+ghost use Rattle.std.specs.Prelude.{◌≡◌, ◌≢◌, ◌≤◌, OnOk, OnErr};
 ghost use Rattle.outside.specs.Cause.{Rose, HasCause};
 ghost use Rattle.outside.specs.Sinks.{HasAdded};
-ghost use Rattle.pack_run.specs.End.{OnVerdict, OnNothingPut};
-ghost use Rattle.pack_run.specs.Report.{Tells, CanReport};
+ghost use Rattle.pack_run.specs.End.{OnNothingPut};
+ghost use Rattle.pack_run.specs.Report.{Reports, AddsProperFront, CanReport};
 ghost use Rattle.pack_run.specs.Verdict.{end_of, assets_of};
 
 use crate::output::{print_all, put_all};
@@ -33,6 +33,7 @@ fn put_assets<S: AssetSink>(
 ) -> Result<(), OutsideEnd>
     ensures held { OnOk result (HasAdded (S.held sink.old) (S.held sink.new) (assets_of verdict.now)) }
     ensures cause { HasCause (S.faults sink.old) (S.faults sink.new) result }
+    ensures front { OnErr result (AddsProperFront (S.held sink.old) (S.held sink.new) (assets_of verdict.now)) }
     ensures nothing { OnNothingPut (end_of verdict.now) (S.held sink.new ≡ S.held sink.old) }
 {
     match verdict {
@@ -49,8 +50,7 @@ pub fn report<S: AssetSink, L: LineSink>(
     lines: &mut L,
 ) -> End
     requires { CanReport verdict.now }
-    ensures tells { OnVerdict result
-        (Tells verdict.now (S.held sink.old) (S.held sink.new) (L.lines lines.old) (L.lines lines.new) result) }
+    ensures reports { Reports verdict.now (S.held sink.old) (S.held sink.new) (L.lines lines.old) (L.lines lines.new) result }
     ensures never_reads { result ≢ End.ReadFault }
     ensures write_cause { result ≡ End.WriteFault → Rose (S.faults sink.old) (S.faults sink.new) }
     ensures line_cause { result ≡ End.LineFault → Rose (L.faults lines.old) (L.faults lines.new) }

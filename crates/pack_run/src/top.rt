@@ -2,9 +2,9 @@ ghost use Rattle.std.specs.Prelude.{◌≡◌, ◌<◌, ◌≤◌, map, string_b
 ghost use Rattle.std.specs.List.{AllZip};
 ghost use Rattle.outside.specs.Cause.{Rose};
 ghost use Rattle.outside.specs.Tree.{Tree, Told};
-ghost use Rattle.pack_run.specs.End.{OnVerdict, OnNothingPut};
+ghost use Rattle.pack_run.specs.End.{OnNothingPut};
 ghost use Rattle.pack_run.specs.Rose.{AnyZip};
-ghost use Rattle.pack_run.specs.Run.{EndsBy, AllTell};
+ghost use Rattle.pack_run.specs.Run.{AllTell, Ends, EndsBy, TriesLine, TriesLast};
 
 use crate::End;
 use crate::decide::decide;
@@ -27,7 +27,7 @@ fn answer<R: TreeReader, S: AssetSink, L: LineSink>(
     ensures write_cause { result ≡ End.WriteFault → Rose (S.faults sink.old) (S.faults sink.new) }
     ensures line_cause { result ≡ End.LineFault → Rose (L.faults lines.old) (L.faults lines.new) }
     ensures nothing_put { OnNothingPut result (S.held sink.new ≡ S.held sink.old) }
-    ensures verdict { Told (R.tree reader.old) (λ tree. EndsBy (map string_bytes words.now) tree
+    ensures verdict { Told (R.tree reader.old) (λ tree. Ends (map string_bytes words.now) tree
         (S.held sink.old) (S.held sink.new) (L.lines lines.old) (L.lines lines.new) result) }
 {
     match decide(alloc, words, reader) {
@@ -60,16 +60,25 @@ fn run_by<R: TreeReader, S: AssetSink, L: LineSink>(
 
 /// Tries the line of an end that has no verdict.
 fn last_line<L: LineSink>(alloc: Global, end: End, lines: &mut L)
-    ensures same { OnVerdict end (L.lines lines.new ≡ L.lines lines.old) }
+    ensures tries { TriesLast end (L.lines lines.old) (L.lines lines.new) }
     ensures never_falls { L.faults lines.old ≤ L.faults lines.new }
 {
-    let text: &[u8] = match end {
-        End::ReadFault => b"read failed",
-        End::WriteFault => b"write failed",
-        End::NoMemory => b"no memory",
-        _ => return,
-    };
-    let _ = lines.line(alloc, text);
+    match end {
+        End::ReadFault => try_line(alloc, b"read failed", lines),
+        End::WriteFault => try_line(alloc, b"write failed", lines),
+        End::NoMemory => try_line(alloc, b"no memory", lines),
+        _ => {}
+    }
+}
+
+fn try_line<L: LineSink>(alloc: Global, text: &[u8], lines: &mut L)
+    ensures tries { TriesLine text.now (L.lines lines.old) (L.lines lines.new) }
+    ensures never_falls { L.faults lines.old ≤ L.faults lines.new }
+{
+    match lines.line(alloc, text) {
+        Ok(()) => {}
+        Err(_) => {}
+    }
 }
 
 /// The whole of a command by the first of the readers.

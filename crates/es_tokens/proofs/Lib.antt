@@ -1,0 +1,9 @@
+pub mod AnswerLemmas
+pub mod LanguageLemmas
+pub mod LawLemmas
+pub mod Literals
+pub mod LongestLemmas
+pub mod MateLemmas
+pub mod ShapeLemmas
+pub mod StepLemmas
+pub mod TokensLemmas

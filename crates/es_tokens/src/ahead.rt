@@ -1,0 +1,9 @@
+use crate::token::TokenFault;
+
+/// What a lexer answers next.
+#[derive(Clone, Copy)]
+pub(crate) enum Ahead {
+    Tokens,
+    Fault(TokenFault),
+    Nothing,
+}
