@@ -1,0 +1,90 @@
+#!/bin/sh
+# Times the JSON reader over an object of 4 MiB and over 4 MiB of nested lists, beside Node's JSON.parse and Python's json,
+# on this machine in one run. The program in Rattle is made in a temporary folder.
+set -eu
+here=$(cd "$(dirname "$0")" && pwd)
+root=$(cd "$here/../.." && pwd)
+work=$(mktemp -d)
+trap 'rm -rf "$work"' EXIT
+
+mkdir -p "$work/crates/bench/src" "$work/crates/bench/specs" "$work/crates/bench/proofs"
+for crate in json_order fault_place; do
+    cp -r "$root/crates/$crate" "$work/crates/$crate"
+    rm -rf "$work/crates/$crate/must-fail"
+done
+printf 'bench: json_order\nfault_place:\njson_order: fault_place indexmap\n' >"$work/crates.txt"
+cat >"$work/crates/bench/src/main.rt" <<'RATTLE'
+#![tactic(auto)]
+
+use json_order::read;
+use std::time::Instant;
+use std::{fs, io};
+
+const PASSES: u32 = 5;
+
+fn main(rt: HostRuntime) -> io::Result<()> {
+    for line in rt.lines(rt.alloc()) {
+        let name = line?;
+        let text = fs::read(&rt, name.as_str())?;
+        let mut best = u128::MAX;
+        let mut read_all = false;
+        for _ in 0..PASSES {
+            let start = Instant::now(&rt)?;
+            let told = read(rt.alloc(), text.as_slice());
+            best = best.min(start.elapsed(&rt)?.as_nanos());
+            read_all = told.is_ok();
+        }
+        let size = text.len();
+        println!(rt; "{size} {best} {read_all}")?;
+    }
+    Ok(())
+}
+RATTLE
+python3 - "$work" <<'PYTHON'
+import sys
+work = sys.argv[1]
+size = 4 * 1024 * 1024
+def fill(part, first, last):
+    out, used, at = [], 0, 0
+    while used < size:
+        piece = part(at)
+        out.append(piece)
+        used += len(piece) + 1
+        at += 1
+    return first + ",".join(out) + last
+open(work + "/object.json", "w").write(fill(lambda at: '"key%d":%d' % (at, at), "{", "}"))
+open(work + "/one_key.json", "w").write(fill(lambda at: '"key":%d' % at, "{", "}"))
+open(work + "/lists.json", "w").write(fill(lambda at: "[" * 40 + str(at) + "]" * 40, "[", "]"))
+PYTHON
+(cd "$work/crates/bench" && rt run </dev/null >/dev/null 2>"$work/log") || { cat "$work/log" >&2; exit 1; }
+cat >"$work/peer.js" <<'NODE'
+const text = require('fs').readFileSync(process.argv[2], 'utf8');
+let best = Infinity;
+for (let pass = 0; pass < 5; pass++) {
+  const start = process.hrtime.bigint();
+  JSON.parse(text);
+  best = Math.min(best, Number(process.hrtime.bigint() - start));
+}
+console.log(best);
+NODE
+cat >"$work/peer.py" <<'PYTHON'
+import json, sys, time
+text = open(sys.argv[1]).read()
+best = None
+for _ in range(5):
+    start = time.perf_counter_ns()
+    json.loads(text)
+    took = time.perf_counter_ns() - start
+    best = took if best is None else min(best, took)
+print(best)
+PYTHON
+for name in object one_key lists; do
+    echo "$work/$name.json" | "$work/crates/bench/out/bench" >"$work/ours"
+    node=$(command -v node >/dev/null && node "$work/peer.js" "$work/$name.json" || echo 0)
+    python=$(python3 "$work/peer.py" "$work/$name.json")
+    awk -v name="$name" -v node="$node" -v python="$python" '{
+        printf "%s: %d bytes, read %s; json_order %.1f MB/s", name, $1, $3, $1 / ($2 / 1e9) / 1e6
+        if (node > 0) printf ", JSON.parse %.1f MB/s (ratio %.2f)", $1 / (node / 1e9) / 1e6, node / $2
+        printf ", Python %.1f MB/s (ratio %.2f)\n", $1 / (python / 1e9) / 1e6, python / $2
+    }' "$work/ours"
+done
