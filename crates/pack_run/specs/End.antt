@@ -14,18 +14,6 @@ status_of LineFault = 4
 status_of NoMemory = 5
 status_of (Limit limit) = 6
 
--- a fact of the ends that tell a verdict
-abbrev pub OnVerdict : End → Type 0 → Type 0
-OnVerdict Built fact = fact
-OnVerdict (Faults count) fact = fact
-OnVerdict Usage fact = fact
-OnVerdict Config fact = fact
-OnVerdict (Limit limit) fact = fact
-OnVerdict ReadFault fact = ⊤
-OnVerdict WriteFault fact = ⊤
-OnVerdict LineFault fact = ⊤
-OnVerdict NoMemory fact = ⊤
-
 -- a fact of the ends at which nothing is put
 abbrev pub OnNothingPut : End → Type 0 → Type 0
 OnNothingPut (Faults count) fact = fact

@@ -1,12 +1,11 @@
 -- What a command promises (this project).
-use Rattle.std.specs.Prelude.{◌≡◌, ℕ, ◌<◌, ◌⊎◌, List, [], ◌∷◌, map, take, length, codes, Option, Some, None, is_some, IsTrue, ⊤}
+use Rattle.std.specs.Prelude.{◌≡◌, ℕ, ◌⊎◌, List, [], ◌∷◌, codes, Option, Some}
 use Rattle.std.specs.List.{AllByRecursion}
 use Rattle.outside.specs.Sinks.{HasAdded}
-use Rattle.outside.specs.Tree.{Tree, bytes_at}
+use Rattle.outside.specs.Tree.{Tree}
 use Rattle.outside.specs.declared.asset_sink.Asset.{Asset}
 use Rattle.pack_run.specs.Report.{Tells, AddsFront, AddsProperFront}
 use Rattle.pack_run.specs.Verdict.{IsVerdict, lines_of, assets_of}
-use Rattle.pack_run.specs.Words.{config_path}
 use Rattle.pack_run.specs.declared.end.End.{End}
 use Rattle.pack_run.specs.declared.end.End.TheVariants.{Built, Faults, Usage, Config, Limit, ReadFault, WriteFault, LineFault, NoMemory}
 use Rattle.pack_run.specs.declared.verdict.Verdict.{Verdict}
@@ -44,14 +43,6 @@ TriesLast end lines lines' = lines' ≡ lines
 abbrev pub EndsBy : List (List ℕ) → Tree → Option (List Asset) → Option (List Asset) → Option (List (List ℕ)) → Option (List (List ℕ)) → End → Type 0
 EndsBy words tree held held' lines lines' end =
     (between : Option (List (List ℕ))) × Ends words tree held held' lines between end × TriesLast end between lines'
-
--- the configuration that the words name is in the tree, where they name one
-abbrev pub IsThere : Tree → Option (List ℕ) → Type 0
-IsThere tree None = ⊤
-IsThere tree (Some config) = IsTrue (is_some (bytes_at tree config))
-
-abbrev pub HasConfig : List (List ℕ) → Tree → Type 0
-HasConfig words tree = IsThere tree (config_path words)
 
 -- all readers tell the tree
 abbrev pub AllTell : {R : Type 0} → (R → Option Tree) → List R → Tree → Type 0

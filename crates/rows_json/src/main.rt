@@ -1,5 +1,5 @@
 //! Worked examples of JSON. Each line of the input is a text in which `\xHH` is a byte and `\\` a backslash. Each line of the
-//! output has the fault, or the tree: its offset, a colon and its node. The expected ones were written by hand from RFC 8259.
+//! output has the fault, or the tree: its offset, a colon and its node. Where the expected ones come from: docs/PROMISES.md.
 #![tactic(auto)]
 
 use json_order::{JsonEnd, JsonFault, JsonKind, JsonNode, JsonTree, read};

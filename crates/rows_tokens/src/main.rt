@@ -1,6 +1,6 @@
 //! Worked examples of tokens. Each line of the input has how often a text is repeated, what is asked of its tokens
 //! (`spans` or `mates`) and the text, with tabs between; in a text `\xHH` is a byte and `\\` a backslash. Each line of the
-//! output has the answer, and the expected ones were written by hand.
+//! output has the answer, and docs/PROMISES.md says where the expected ones come from.
 #![tactic(auto)]
 
 use es_tokens::{Token, TokenClass, TokenEnd, TokenFault, TokenKind, tokens};
