@@ -1,4 +1,5 @@
 ghost use Rattle.std.specs.Prelude.{◌≡◌, ◌++◌, ◌∷◌, [], length, OnOk, OnErr};
+ghost use Rattle.std.specs.Cmp.Lexicographic.{lists_equiv, lists_per, pointwise};
 ghost use Rattle.std.specs.List.{AllZip};
 
 use crate::NoMemory;
@@ -73,4 +74,18 @@ impl<T: Clone> Clone for Seq<T> {
             vec: self.vec.clone()?,
         })
     }
+}
+
+impl<T: PartialEq> PartialEq for Seq<T> {
+    ghost eq = { pointwise T.eq };
+
+    ghost laws = { lists_per T.laws };
+
+    fn eq(&self, other: &Seq<T>) -> bool {
+        self.as_slice() == other.as_slice()
+    }
+}
+
+impl<T: Eq> Eq for Seq<T> {
+    ghost laws = { lists_equiv T.Eq.laws };
 }

@@ -1,0 +1,9 @@
+pub mod Clean
+pub mod Firsts
+pub mod Hashes
+pub mod Marks
+pub mod Numbers
+pub mod Pieces
+pub mod Shown
+pub mod Steps
+pub mod Templates

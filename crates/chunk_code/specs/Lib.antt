@@ -1,0 +1,2 @@
+pub mod Runtime
+pub mod Texts

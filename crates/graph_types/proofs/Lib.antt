@@ -1,0 +1,4 @@
+pub mod Numbering
+pub mod Reached
+pub mod Search
+pub mod Walks

@@ -1,0 +1,5 @@
+pub mod Edges
+pub mod Modules
+pub mod Parts
+pub mod Reached
+pub mod Whole

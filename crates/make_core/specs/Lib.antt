@@ -1,0 +1,2 @@
+pub mod Core
+pub use Rattle.graph_types.specs.Reached

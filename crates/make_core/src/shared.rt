@@ -1,0 +1,11 @@
+//! What threads share may be sent to any of them and read by all at once.
+
+use crate::{CorePlan, CoreState, Event};
+
+fn is_shared<T: Send + Sync>(_value: &T) {}
+
+fn are_shared(plan: &CorePlan, event: &Event, state: &CoreState) {
+    is_shared(plan);
+    is_shared(event);
+    is_shared(state);
+}

@@ -1,0 +1,18 @@
+//! What a record's items name.
+ghost use Rattle.std.specs.Prelude.{◌≡◌, ◌==◌};
+ghost use Rattle.std.specs.List.{list_any};
+ghost use Rattle.make_core.specs.Core.{targets_of};
+
+use fault_place::FileId;
+use graph_types::ModRecord;
+
+/// Whether an item of the record has the file as its target.
+pub(crate) fn names(rec: &ModRecord, file: FileId) -> bool
+    ensures { result ≡ list_any (λ target. file.0 == target) (targets_of rec.now) }
+{
+    rec.items
+        .as_slice()
+        .iter()
+        .filter_map(|item| item.target.map(|target| target.0))
+        .any(|target| file.0 == target)
+}

@@ -1,0 +1,12 @@
+pub mod Blocks
+pub mod Findings
+pub mod Graphs
+pub mod Lists
+pub mod Marks
+pub mod Orders
+pub mod Pending
+pub mod Records
+pub mod Requests
+pub mod Spans
+pub mod Statements
+pub mod Trees

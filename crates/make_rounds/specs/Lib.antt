@@ -1,0 +1,11 @@
+pub mod Build
+pub mod Fits
+pub mod Found
+pub mod Gathered
+pub mod Graph
+pub mod Imports
+pub mod Reads
+pub mod Record
+pub mod Requests
+pub mod Shape
+pub mod Statements

@@ -1,0 +1,72 @@
+//! The graph of the records that were gathered.
+ghost use Rattle.std.specs.Prelude.{◌≡◌, ◌<◌, ◌^◌, ◌++◌, flat_map, nat_eq, IsPermutation, OnOk, IfOk};
+ghost use Rattle.std.specs.List.{IsDistinct};
+ghost use Rattle.graph_types.specs.Modules.{AreAscending, files_of};
+ghost use Rattle.make_rounds.specs.Fits.{Fits};
+ghost use Rattle.make_rounds.specs.Gathered.{AreSimple, IsGraphFrom};
+
+use fault_place::{Fault, FileId, NoMemory, Seq};
+use graph_types::{ModRecord, ModuleGraph};
+use std::alloc::Global;
+
+/// The records in the order of their files, which is that of their paths.
+fn in_file_order(mut records: Vec<ModRecord>) -> Vec<ModRecord>
+    ensures same { IsPermutation records.items result.items }
+    ensures ascending { IsDistinct nat_eq (files_of records.items) → AreAscending result.items }
+{
+    records.sort_unstable_by_key(|record| record.file.0);
+    records
+}
+
+fn add_faults(faults: &mut Vec<Fault>, more: &[Fault]) -> Result<(), NoMemory>
+    ensures { OnOk result (faults.new.items ≡ faults.old.items ++ more.now) }
+{
+    for fault in more {
+        faults.push(fault.clone()?)?;
+    }
+    Ok(())
+}
+
+/// The faults that were found before, and then those of the records.
+fn all_faults(faults: Vec<Fault>, records: &[ModRecord]) -> Result<Vec<Fault>, NoMemory>
+    ensures { IfOk result (λ all. all.items ≡ faults.items ++ flat_map (λ rec. rec.faults) records.now) }
+{
+    let mut all = faults;
+    for record in records {
+        add_faults(&mut all, record.faults.as_slice())?;
+    }
+    Ok(all)
+}
+
+/// The graph of records of different files, among so many.
+fn put_together(
+    alloc: Global,
+    records: Vec<ModRecord>,
+    entry: Seq<FileId>,
+    faults: Vec<Fault>,
+    files: u32,
+) -> Result<ModuleGraph, NoMemory>
+    requires { AreSimple files records.items }
+    ensures { IfOk result (IsGraphFrom records.items entry faults.items) }
+{
+    let records = in_file_order(records);
+    let faults = all_faults(faults, &records)?;
+    let mut entries = Vec::new(alloc);
+    entries.push(entry)?;
+    ModuleGraph::from_records(alloc, records, entries, faults)
+}
+
+/// The graph of records of different files, among so many, on which the later phases may rely.
+pub(crate) fn graph(
+    alloc: Global,
+    records: Vec<ModRecord>,
+    entry: Seq<FileId>,
+    faults: Vec<Fault>,
+    files: u32,
+) -> Result<ModuleGraph, NoMemory>
+    requires { AreSimple files records.items }
+    ensures graph { IfOk result (IsGraphFrom records.items entry faults.items) }
+    ensures fits { IfOk result (Fits faults.items) }
+{
+    put_together(alloc, records, entry, faults, files)
+}

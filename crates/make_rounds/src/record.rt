@@ -1,0 +1,175 @@
+//! The record of a module, from what its file gave.
+ghost use Rattle.std.specs.Prelude.{◌≡◌, ◌<◌, ◌≤◌, ◌∷◌, [], length, map, filter_map, IfOk};
+ghost use Rattle.path_text.specs.Path.{IsNormal};
+ghost use Rattle.tree_listing.specs.Listing.{length_at};
+ghost use Rattle.make_rounds.specs.Record.{edit_of, fault_of, kind_of, whole_record, stopped_record, long_record, record_from};
+ghost use Rattle.make_rounds.specs.Shape.{IsReadable, IsSimple, HasPlaces};
+
+use crate::import::{Reading, imports};
+use crate::list::add_some;
+use fault_place::{Bytes, Fault, FaultKind, FileId, NoMemory, Place, Seq, Text, place_at};
+use graph_types::{Edit, EditText, Item, ModKind, ModRecord};
+use outside::ReadGot;
+use std::alloc::Global;
+use tree_listing::Listing;
+
+/// Each import becomes an empty statement.
+fn edits(alloc: Global, items: &[Item]) -> Result<Seq<Edit>, NoMemory>
+    ensures { IfOk result (λ edits. edits ≡ map edit_of items.now) }
+{
+    let mut edits = Vec::new(alloc);
+    for item in items {
+        edits.push(Edit {
+            span: item.span,
+            put: EditText::Fixed(Text::new(alloc, ";")?),
+        })?;
+    }
+    Ok(Seq::from_vec(edits))
+}
+
+/// The fault of an item that names no file.
+fn fault(alloc: Global, path: &str, text: &[u8], item: &Item) -> Result<Option<Fault>, NoMemory>
+    requires { item.now.at ≤ length text.now }
+    ensures { IfOk result (λ fault. fault ≡ fault_of path.now text.now item.now) }
+{
+    if item.target.is_some() {
+        return Ok(None);
+    }
+    Ok(Some(Fault {
+        place: place_at(alloc, path, text, u64::from(item.at))?,
+        kind: FaultKind::Unresolved,
+        detail: item.request.clone()?,
+    }))
+}
+
+/// The faults of the items that name no file.
+fn faults(alloc: Global, path: &str, text: &[u8], items: &[Item]) -> Result<Seq<Fault>, NoMemory>
+    requires { HasPlaces (length text.now) items.now }
+    ensures { IfOk result (λ faults. faults ≡ filter_map (fault_of path.now text.now) items.now) }
+{
+    let mut faults = Vec::new(alloc);
+    for item in items {
+        add_some(&mut faults, fault(alloc, path, text, item)?)?;
+    }
+    Ok(Seq::from_vec(faults))
+}
+
+/// A module with an import is an ES module.
+fn kind_of(items: &[Item]) -> ModKind
+    ensures { result ≡ kind_of items.now }
+{
+    match items {
+        [] => ModKind::Plain,
+        [_, ..] => ModKind::Es,
+    }
+}
+
+fn one_fault(alloc: Global, place: Place, kind: FaultKind) -> Result<Seq<Fault>, NoMemory>
+    ensures { IfOk result (λ faults. faults ≡ record { place = place; kind = kind; detail = [] } ∷ []) }
+{
+    let mut faults = Seq::new(alloc);
+    faults.push(Fault {
+        place,
+        kind,
+        detail: Text::new(alloc, "")?,
+    })?;
+    Ok(faults)
+}
+
+/// The record of a text that is read to its end.
+fn whole_record(
+    alloc: Global,
+    file: FileId,
+    path: &str,
+    text: Bytes,
+    items: Seq<Item>,
+) -> Result<ModRecord, NoMemory>
+    requires { HasPlaces (length text) items }
+    ensures { IfOk result (λ rec. rec ≡ whole_record file path.now text items) }
+{
+    Ok(ModRecord {
+        file,
+        path: Text::new(alloc, path)?,
+        size: text.get().len() as u64,
+        kind: kind_of(items.as_slice()),
+        binds: Seq::new(alloc),
+        exports: Seq::new(alloc),
+        stars: Seq::new(alloc),
+        edits: edits(alloc, items.as_slice())?,
+        notes: Seq::new(alloc),
+        faults: faults(alloc, path, text.get(), items.as_slice())?,
+        items,
+        text,
+    })
+}
+
+/// The record of a text that isn't read from an offset on.
+fn stopped_record(
+    alloc: Global,
+    file: FileId,
+    path: &str,
+    text: Bytes,
+    at: u32,
+) -> Result<ModRecord, NoMemory>
+    requires { at ≤ length text }
+    ensures { IfOk result (λ rec. rec ≡ stopped_record file path.now text at) }
+{
+    let place = place_at(alloc, path, text.get(), u64::from(at))?;
+    Ok(ModRecord {
+        file,
+        path: Text::new(alloc, path)?,
+        size: text.get().len() as u64,
+        kind: ModKind::Plain,
+        text,
+        items: Seq::new(alloc),
+        binds: Seq::new(alloc),
+        exports: Seq::new(alloc),
+        stars: Seq::new(alloc),
+        edits: Seq::new(alloc),
+        notes: Seq::new(alloc),
+        faults: one_fault(alloc, place, FaultKind::NotYet)?,
+    })
+}
+
+/// The record of a text that is too long to be kept.
+fn long_record(alloc: Global, file: FileId, path: &str, size: u64) -> Result<ModRecord, NoMemory>
+    ensures { IfOk result (λ rec. rec ≡ long_record file path.now size) }
+{
+    let place = place_at(alloc, path, b"", 0)?;
+    Ok(ModRecord {
+        file,
+        path: Text::new(alloc, path)?,
+        size,
+        kind: ModKind::Bad,
+        text: Bytes::new(alloc, b"")?,
+        items: Seq::new(alloc),
+        binds: Seq::new(alloc),
+        exports: Seq::new(alloc),
+        stars: Seq::new(alloc),
+        edits: Seq::new(alloc),
+        notes: Seq::new(alloc),
+        faults: one_fault(alloc, place, FaultKind::TooLong)?,
+    })
+}
+
+/// The record of the file at a path.
+pub(crate) fn record(
+    alloc: Global,
+    listing: &Listing,
+    file: FileId,
+    path: &str,
+    got: ReadGot,
+) -> Result<ModRecord, NoMemory>
+    requires there { file.0 < length listing.now.files }
+    requires readable { IsReadable got }
+    ensures shape { IfOk result (IsSimple (length listing.now.files) file) }
+    ensures value { IsNormal path.now → IfOk result (λ rec. rec ≡ record_from listing.now.files file path.now (length_at listing.now.files file.0) got) }
+{
+    match got {
+        ReadGot::Whole(text) => match imports(alloc, listing, path, text.get())? {
+            Reading::Whole(items) => whole_record(alloc, file, path, text, items),
+            Reading::StopsAt(at) => stopped_record(alloc, file, path, text, at),
+        },
+        ReadGot::TooLong => long_record(alloc, file, path, listing.length(file)),
+    }
+}

@@ -1,0 +1,3 @@
+mod Commas
+mod Edits
+mod Numbering

@@ -1,0 +1,49 @@
+ghost use Rattle.std.specs.Prelude.{◌≡◌, ◌++◌, OnOk};
+ghost use Rattle.graph_types.specs.Whole.{IsWhole};
+ghost use Rattle.module_code.specs.ModuleText.{imported_names, exported_names, es_text};
+ghost use Rattle.module_code.specs.Numbers.{load_numbers};
+
+use crate::binds::add_binds;
+use crate::body::add_body;
+use crate::exports::add_exports;
+use crate::loads::add_loads;
+use crate::numbers::load_numbers;
+use append_text::add;
+use fault_place::NoMemory;
+use graph_types::{ModRecord, ModuleGraph};
+
+fn add_imported_names(text: &mut Vec<u8>, numbers: &[u32], rec: &ModRecord) -> Result<(), NoMemory>
+    requires { numbers.now ≡ load_numbers rec.now.items }
+    ensures { OnOk result (text.new.items ≡ text.old.items ++ imported_names rec.now) }
+{
+    add(
+        text,
+        b"function(module,exports,__cp){var __cp_i=[];with(__cp.b(__cp_i,{",
+    )?;
+    add_binds(text, numbers, rec.binds.as_slice())?;
+    add(text, b"})){")
+}
+
+fn add_exported_names(text: &mut Vec<u8>, numbers: &[u32], rec: &ModRecord) -> Result<(), NoMemory>
+    requires { numbers.now ≡ load_numbers rec.now.items }
+    ensures { OnOk result (text.new.items ≡ text.old.items ++ exported_names rec.now) }
+{
+    add(text, b"(function(){\"use strict\";__cp.d(exports,{")?;
+    add_exports(text, numbers, rec.exports.as_slice())?;
+    add(text, b"});")
+}
+
+/// Adds the text of a module with imports or exports.
+pub fn add_es(text: &mut Vec<u8>, graph: &ModuleGraph, rec: &ModRecord) -> Result<(), NoMemory>
+    requires { IsWhole rec.now }
+    ensures { OnOk result (text.new.items ≡ text.old.items ++ es_text graph.now.records rec.now) }
+{
+    let table = load_numbers(*text.allocator(), rec.items.as_slice())?;
+    let numbers = table.as_slice();
+    add_imported_names(text, numbers, rec)?;
+    add_exported_names(text, numbers, rec)?;
+    add_loads(text, graph, numbers, rec)?;
+    add(text, b"\n")?;
+    add_body(text, graph, rec)?;
+    add(text, b"\n}).call(undefined)}}")
+}

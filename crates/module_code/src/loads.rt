@@ -1,0 +1,58 @@
+ghost use Rattle.std.specs.Prelude.{◌≡◌, ◌++◌, [], OnOk, if◌then◌else◌};
+ghost use Rattle.module_code.specs.Loads.{one_load, star_text, item_load, loads_text};
+ghost use Rattle.module_code.specs.Numbers.{load_numbers};
+
+use crate::numbers::{declares, starred_items, target_id};
+use append_text::add_around;
+use fault_place::NoMemory;
+use graph_types::{Item, ModRecord, ModuleGraph};
+
+fn add_one_load(text: &mut Vec<u8>, number: u64, id: u64) -> Result<(), NoMemory>
+    ensures { OnOk result (text.new.items ≡ text.old.items ++ one_load number id) }
+{
+    add_around(text, b"__cp_i[", number, b"]=__cp(")?;
+    add_around(text, b"", id, b");")
+}
+
+fn add_star(text: &mut Vec<u8>, number: u64, starred: bool) -> Result<(), NoMemory>
+    ensures { OnOk result (text.new.items ≡ text.old.items ++ (if starred then star_text number else [])) }
+{
+    if starred {
+        add_around(text, b"__cp.s(exports,__cp_i[", number, b"]);")?;
+    }
+    Ok(())
+}
+
+fn add_item_load(
+    text: &mut Vec<u8>,
+    graph: &ModuleGraph,
+    number: u64,
+    starred: bool,
+    item: &Item,
+) -> Result<(), NoMemory>
+    ensures { OnOk result (text.new.items ≡ text.old.items ++ item_load graph.now.records number starred item.now) }
+{
+    if declares(item.kind) {
+        add_one_load(text, number, target_id(graph, item))?;
+        add_star(text, number, starred)?;
+    }
+    Ok(())
+}
+
+/// Adds the loads of a module's imports.
+pub fn add_loads(
+    text: &mut Vec<u8>,
+    graph: &ModuleGraph,
+    numbers: &[u32],
+    rec: &ModRecord,
+) -> Result<(), NoMemory>
+    requires { numbers.now ≡ load_numbers rec.now.items }
+    ensures { OnOk result (text.new.items ≡ text.old.items ++ loads_text graph.now.records rec.now) }
+{
+    let items = rec.items.as_slice();
+    let starred = starred_items(*text.allocator(), rec.stars.as_slice(), items.len())?;
+    for (place, item) in items.iter().enumerate() {
+        add_item_load(text, graph, numbers[place] as u64, starred[place], item)?;
+    }
+    Ok(())
+}

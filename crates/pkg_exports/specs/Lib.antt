@@ -1,0 +1,6 @@
+pub mod Answers
+pub mod Exports
+pub mod Keys
+pub mod Segments
+pub mod Steps
+pub mod Targets

@@ -1,0 +1,2 @@
+pub use Rattle.json_order.specs.Answer
+pub mod Manifest
