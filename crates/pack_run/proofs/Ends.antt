@@ -5,6 +5,8 @@ use Rattle.std.proofs.Math.Seq.{take-length}
 use Rattle.outside.specs.Sinks.{HasAdded}
 use Rattle.outside.specs.Tree.{Tree}
 use Rattle.outside.specs.declared.asset_sink.Asset.{Asset}
+use Rattle.outside.specs.declared.entry.Why.{Why}
+use Rattle.pack_run.specs.Reads.{ReadsModules}
 use Rattle.pack_run.specs.Report.{AddsFront, AddsProperFront, Reports}
 use Rattle.pack_run.specs.Run.{Ends}
 use Rattle.pack_run.specs.Verdict.{IsVerdict}
@@ -30,15 +32,15 @@ module _ {A : Type 0} where
   pub AddsFront-proper : (before now : Option (List A)) (members : List A) → AddsProperFront before now members → AddsFront before now members
   AddsFront-proper before now members front = (front.0, front.2)
 
-module _ (words : List (List ℕ)) (tree : Tree) (held held' : Option (List Asset)) (lines lines' : Option (List (List ℕ))) where
+module _ (words : List (List ℕ)) (tree : Tree) (reads : List (List ℕ × Why)) (held held' : Option (List Asset)) (lines lines' : Option (List (List ℕ))) where
   -- the verdict that was reported is the one on the tree
-  pub ends_by : (end : End) (verdict : Verdict) → IsVerdict words tree verdict → Reports verdict held held' lines lines' end → Ends words tree held held' lines lines' end
-  ends_by Built verdict is tells = (verdict, is, tells)
-  ends_by (Faults count) verdict is tells = (verdict, is, tells)
-  ends_by Usage verdict is tells = (verdict, is, tells)
-  ends_by Config verdict is tells = (verdict, is, tells)
-  ends_by (Limit limit) verdict is tells = (verdict, is, tells)
-  ends_by ReadFault verdict is never = absurd never
-  ends_by WriteFault verdict is left = (verdict, is, left.0, left.1)
-  ends_by LineFault verdict is left = (verdict, is, left.0, left.1)
-  ends_by NoMemory verdict is left = inr (verdict, is, left.0, left.1)
+  pub ends_by : (end : End) (verdict : Verdict) (paths : List (List ℕ)) → IsVerdict words tree verdict paths → ReadsModules paths reads → Reports verdict held held' lines lines' end → Ends words tree reads held held' lines lines' end
+  ends_by Built verdict paths is read tells = (verdict, paths, is, read, tells)
+  ends_by (Faults count) verdict paths is read tells = (verdict, paths, is, read, tells)
+  ends_by Usage verdict paths is read tells = (verdict, paths, is, read, tells)
+  ends_by Config verdict paths is read tells = (verdict, paths, is, read, tells)
+  ends_by (Limit limit) verdict paths is read tells = (verdict, paths, is, read, tells)
+  ends_by ReadFault verdict paths is read never = absurd never
+  ends_by WriteFault verdict paths is read left = (verdict, paths, is, read, left)
+  ends_by LineFault verdict paths is read left = (verdict, paths, is, read, left)
+  ends_by NoMemory verdict paths is read left = inr (verdict, paths, is, read, left)

@@ -1,4 +1,8 @@
+pub mod Configs
+pub mod Decisions
 pub mod Ends
-pub mod Listings
+pub mod Entries
+pub mod Jobs
+pub mod Makings
+pub mod Outcomes
 pub mod Readers
-pub mod Requests

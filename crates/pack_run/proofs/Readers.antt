@@ -1,6 +1,8 @@
 -- A list of readers of which the first made calls.
-use Rattle.std.proofs.Common.{◌≡◌, ℕ, ◌<◌, List, [], ◌∷◌, length, get_or, set, subst, arith}
-use Rattle.std.specs.List.{AllZip}
+use Rattle.std.proofs.Common.{◌≡◌, ℕ, ◌<◌, List, [], ◌∷◌, ◌++◌, append-nil, length, get_or, set, refl, sym, ap, ◌∙◌, subst, arith}
+use Rattle.std.specs.List.{AllByRecursion, AllZip}
+use Rattle.outside.specs.declared.entry.Why.{Why}
+use Rattle.pack_run.specs.Reads.{LogsGain}
 
 module _ {X : Type 0} (R : X → X → Type 0) (reflexive : (x : X) → R x x) where
   AllZip-itself : (xs : List X) → AllZip R xs xs
@@ -10,3 +12,18 @@ module _ {X : Type 0} (R : X → X → Type 0) (reflexive : (x : X) → R x x) w
   pub AllZip-set_first : (xs : List X) (x y : X) → 0 < length xs → x ≡ get_or xs 0 x → R x y → AllZip R xs (set xs 0 y)
   AllZip-set_first [] x y some is follows = absurd (omega arith)
   AllZip-set_first (first ∷ rest) x y some is follows = (subst (λ old. R old y) is follows, AllZip-itself rest)
+
+-- what holds of each reader holds of the first
+pub all-first : {X : Type 0} (P : X → Type 0) (xs : List X) (x : X) → 0 < length xs → x ≡ get_or xs 0 x → AllByRecursion P xs → P x
+all-first P [] x some is all = absurd (omega arith)
+all-first P (first ∷ rest) x some is all = subst P (sym is) all.0
+
+module _ {X : Type 0} (log : X → List (List ℕ × Why)) where
+  LogsGain-none : (xs : List X) → LogsGain log xs xs []
+  LogsGain-none [] = refl
+  LogsGain-none (x ∷ xs) = ([], [], sym (append-nil (log x)), refl, LogsGain-none xs)
+
+  pub LogsGain-set_first : (xs : List X) (x y : X) (own : List (List ℕ × Why)) → 0 < length xs → x ≡ get_or xs 0 x → log y ≡ log x ++ own → LogsGain log xs (set xs 0 y) own
+  LogsGain-set_first [] x y own some is gains = absurd (omega arith)
+  LogsGain-set_first (first ∷ rest) x y own some is gains =
+      (own, [], gains ∙ ap (λ old. log old ++ own) is, sym (append-nil own), LogsGain-none rest)

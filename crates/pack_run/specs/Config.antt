@@ -1,7 +1,7 @@
 -- The configuration that is read today (this project): `{"entry":"P"}` with a plain request P, and at most one LF.
 use Rattle.std.specs.Prelude.{ℕ, ◌-◌, Bool, List, codes, nat_eq, nat_lt, length, take, drop, Option, Some, None, unwrap_or, option_and_then, Result, Ok, Err, ok_or, if◌then◌else◌}
 use Rattle.std.specs.List.{starts_with, ends_with}
-use Rattle.pack_run.specs.Requests.{is_plain}
+use Rattle.make_rounds.specs.Requests.{plain_of}
 use Rattle.pack_run.specs.declared.config.ConfigKind.{ConfigKind}
 use Rattle.pack_run.specs.declared.config.ConfigKind.TheVariants.{TooLong, NotYet}
 
@@ -13,13 +13,10 @@ after_front front text = if starts_with nat_eq text front then Some (drop (lengt
 abbrev pub before_end : List ℕ → List ℕ → Option (List ℕ)
 before_end end text = if ends_with nat_eq text end then Some (take (length text - length end) text) else None
 
-abbrev pub plain_only : List ℕ → Option (List ℕ)
-plain_only request = if is_plain request then Some request else None
-
 -- the request of the entry
 abbrev pub entry_of : List ℕ → Option (List ℕ)
 entry_of text =
-    option_and_then plain_only
+    option_and_then plain_of
     (option_and_then (before_end (codes "\"}"))
     (after_front (codes "{\"entry\":\"") (unwrap_or (before_end (codes "\n") text) text)))
 

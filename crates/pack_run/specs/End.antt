@@ -25,3 +25,10 @@ OnNothingPut Built fact = ⊤
 OnNothingPut WriteFault fact = ⊤
 OnNothingPut LineFault fact = ⊤
 OnNothingPut NoMemory fact = ⊤
+
+-- an end that tells a verdict, or that memory ran out
+abbrev pub IsDecided : End → Type 0
+IsDecided ReadFault = ⊥
+IsDecided WriteFault = ⊥
+IsDecided LineFault = ⊥
+IsDecided end = ⊤

@@ -1,12 +1,11 @@
 pub mod Config
+pub mod Decision
 pub mod End
+pub mod Entry
+pub mod Reads
 pub mod Report
-pub mod Requests
 pub mod Rose
 pub mod Run
-pub mod Runtime
-pub mod Stats
 pub mod Stop
-pub mod Texts
 pub mod Verdict
 pub mod Words

@@ -1,27 +1,28 @@
 -- What a build of a tree comes to (this project): the first that applies of usage, a missing configuration, a bad one, an
 -- exceeded limit, faults, and the assets.
-use Rattle.std.specs.Prelude.{◌≡◌, ℕ, ◌⊎◌, List, [], ◌∷◌, ◌++◌, map, length, codes, decimal, Option, Some, None, Result, Ok, Err}
+use Rattle.std.specs.Prelude.{◌≡◌, ℕ, ◌⊎◌, List, [], ◌∷◌, ◌++◌, map, length, slice_index_or, codes, decimal, Option, Some, None, option_and_then, option_to_list, Result, Ok, Err}
 use Rattle.std.specs.Result.{result_ok}
-use Rattle.serde_json.specs.Written.{compact_text}
+use Rattle.chunk_code.specs.Texts.{entry_text}
 use Rattle.fault_place.specs.declared.fault.Fault.{Fault}
 use Rattle.fault_place.specs.declared.fault.FaultKind.{FaultKind}
-use Rattle.fault_place.specs.declared.fault.FaultKind.TheVariants.{Unresolved, NotYet, TooLong}
+use Rattle.fault_place.specs.declared.fault.FaultKind.TheVariants.{Unresolved}
 use Rattle.fault_place.specs.declared.limit.Limit.{Limit}
 use Rattle.fault_place.specs.declared.place.Place.{Place}
 use Rattle.fault_place.specs.Fault.{line_of, in_order}
 use Rattle.fault_place.specs.Limit.{name_of, number_of}
 use Rattle.fault_place.specs.Place.{place_in}
+use Rattle.graph_types.specs.Modules.{Graph}
+use Rattle.graph_types.specs.declared.record.ModRecord.{ModRecord}
+use Rattle.make_rounds.specs.Graph.{IsGraphOf}
+use Rattle.module_code.specs.ModuleText.{record_text}
 use Rattle.path_text.specs.Path.{join_of}
 use Rattle.outside.specs.Tree.{Tree, bytes_at}
-use Rattle.outside.specs.Reads.{read_of}
 use Rattle.outside.specs.Sinks.{asset}
 use Rattle.outside.specs.declared.asset_sink.Asset.{Asset}
-use Rattle.outside.specs.declared.entry.ReadGot.{ReadGot}
-use Rattle.outside.specs.declared.entry.ReadGot.TheVariants.{Whole, TooLong as Above}
+use Rattle.stats_text.specs.Stats.{stats_text_of}
 use Rattle.tree_listing.specs.Limits.{Exceeds}
+use Rattle.tree_listing.specs.Listing.{lengths_of, number_at}
 use Rattle.pack_run.specs.Config.{config_of, entry_offset}
-use Rattle.pack_run.specs.Stats.{stats_of}
-use Rattle.pack_run.specs.Texts.{plain_text, entry_text}
 use Rattle.pack_run.specs.Words.{config_path}
 use Rattle.pack_run.specs.declared.config.ConfigKind.{ConfigKind}
 use Rattle.pack_run.specs.declared.config.ConfigKind.TheVariants.{TooLong as ConfigTooLong, NotYet as ConfigNotYet}
@@ -31,74 +32,80 @@ use Rattle.pack_run.specs.declared.verdict.Build.{Build}
 use Rattle.pack_run.specs.declared.verdict.Verdict.{Verdict}
 use Rattle.pack_run.specs.declared.verdict.Verdict.TheVariants.{Usage, Missing, Config, Limit as Over, Faults, Built}
 
--- the most bytes of a text
-abbrev pub max_text : ℕ
-max_text = 4_194_304
-
 -- the first place of a file
 abbrev pub start_of : List ℕ → Place
 start_of path = place_in path [] 0
 
--- the faults of a module whose file has these bytes: each text but the one of no bytes isn't read today
-abbrev pub module_faults : List ℕ → ReadGot → List Fault
-module_faults path (Whole []) = []
-module_faults path (Whole (byte ∷ bytes)) = record { place = start_of path; kind = NotYet; detail = [] } ∷ []
-module_faults path Above = record { place = start_of path; kind = TooLong; detail = [] } ∷ []
+-- the texts of the modules, by their numbers
+abbrev pub module_texts : List ModRecord → List (List ℕ)
+module_texts records = map (record_text records) records
 
--- the stats as they are written
-abbrev pub stats_text : List ℕ → List ℕ
-stats_text path = compact_text (stats_of path) ++ codes "\n"
-
--- the assets of a build of one module of no bytes
-abbrev pub build_of : List ℕ → Build
-build_of path = record {
-  modules = 1;
+-- the assets of a build of one entry, whose chunk has all modules
+abbrev pub build_of : Graph → Build
+build_of graph = record {
+  modules = length graph.records;
   chunks = 1;
-  assets = asset (codes "main.js") (entry_text 0 (plain_text [] ∷ []) 0) ∷ asset (codes "stats.json") (stats_text path) ∷ [];
+  assets =
+      asset (codes "main.js") (entry_text 0 (module_texts graph.records) (slice_index_or graph.roots 0 []))
+      ∷ asset (codes "stats.json") (stats_text_of graph) ∷ [];
 }
 
 -- the assets, where there are no faults
-abbrev pub unless_faults : List Fault → List ℕ → Verdict
-unless_faults [] path = Built (build_of path)
-unless_faults (fault ∷ faults) path = Faults (in_order (fault ∷ faults))
+abbrev pub unless_faults : List Fault → Graph → Verdict
+unless_faults [] graph = Built (build_of graph)
+unless_faults (fault ∷ faults) graph = Faults (in_order (fault ∷ faults))
+
+abbrev pub outcome_of : Graph → Verdict
+outcome_of graph = unless_faults graph.faults graph
+
+-- the file that the entry's request names from the root
+abbrev pub entry_file : List (List ℕ × ℕ) → List ℕ → Option ℕ
+entry_file files request = option_and_then (number_at files) (result_ok (join_of [] request))
 
 -- the fault of an entry whose request names no file
 abbrev pub unresolved : List ℕ → List ℕ → List ℕ → Fault
 unresolved config text request = record { place = place_in config text entry_offset; kind = Unresolved; detail = request }
 
--- the entry's file, where there is one
-abbrev pub entry_verdict : List ℕ → List ℕ → List ℕ → List ℕ → Option (List ℕ) → Verdict
-entry_verdict config text request path None = Faults (unresolved config text request ∷ [])
-entry_verdict config text request path (Some bytes) = unless_faults (module_faults path (read_of max_text bytes)) path
+abbrev pub entry_faults : List ℕ → List ℕ → List ℕ → Option ℕ → List Fault
+entry_faults config text request None = unresolved config text request ∷ []
+entry_faults config text request (Some file) = []
 
--- the entry's path, where the request names one
-abbrev pub path_verdict : Tree → List ℕ → List ℕ → List ℕ → Option (List ℕ) → Verdict
-path_verdict tree config text request None = Faults (unresolved config text request ∷ [])
-path_verdict tree config text request (Some path) = entry_verdict config text request path (bytes_at tree path)
+-- The graph of the entry's file, or of none where its request names none, gives the faults in their order or the assets.
+-- The modules have these paths.
+pub record IsOutcome (tree : Tree) (config text request : List ℕ) (verdict : Verdict) (paths : List (List ℕ)) : Type 0 where
+  pub graph : Graph
+  pub graph_is : IsGraphOf tree (option_to_list (entry_file (lengths_of tree) request)) (entry_faults config text request (entry_file (lengths_of tree) request)) graph
+  pub verdict_is : verdict ≡ outcome_of graph
+  pub paths_are : paths ≡ map (λ rec. rec.path) graph.records
 
--- the faults, or the assets
-abbrev pub outcome_of : Tree → List ℕ → List ℕ → List ℕ → Verdict
-outcome_of tree config text request = path_verdict tree config text request (result_ok (join_of [] request))
+-- a verdict for which no module is read
+pub record IsEarly (expected verdict : Verdict) (paths : List (List ℕ)) : Type 0 where
+  pub verdict_is : verdict ≡ expected
+  pub paths_are : paths ≡ []
 
 -- the configuration's meaning, and then the limits
-abbrev pub IsConfigVerdict : Tree → List ℕ → List ℕ → Result (List ℕ) ConfigKind → Verdict → Type 0
-IsConfigVerdict tree config text (Err kind) verdict = verdict ≡ Config (start_of config) kind
-IsConfigVerdict tree config text (Ok request) verdict =
-    ((limit : Limit) × Exceeds tree limit × (verdict ≡ Over limit))
-    ⊎ (((limit : Limit) → ¬ Exceeds tree limit) × (verdict ≡ outcome_of tree config text request))
+abbrev pub IsConfigVerdict : Tree → List ℕ → List ℕ → Result (List ℕ) ConfigKind → Verdict → List (List ℕ) → Type 0
+IsConfigVerdict tree config text (Err kind) verdict paths = IsEarly (Config (start_of config) kind) verdict paths
+IsConfigVerdict tree config text (Ok request) verdict paths =
+    ((limit : Limit) × Exceeds tree limit × IsEarly (Over limit) verdict paths)
+    ⊎ (((limit : Limit) → ¬ Exceeds tree limit) × IsOutcome tree config text request verdict paths)
 
 -- the configuration's bytes, where it is in the tree
-abbrev pub IsTextVerdict : Tree → List ℕ → Option (List ℕ) → Verdict → Type 0
-IsTextVerdict tree config None verdict = verdict ≡ Missing
-IsTextVerdict tree config (Some text) verdict = IsConfigVerdict tree config text (config_of text) verdict
+abbrev pub IsTextVerdict : Tree → List ℕ → Option (List ℕ) → Verdict → List (List ℕ) → Type 0
+IsTextVerdict tree config None verdict paths = IsEarly Missing verdict paths
+IsTextVerdict tree config (Some text) verdict paths = IsConfigVerdict tree config text (config_of text) verdict paths
 
-abbrev pub IsJobVerdict : Tree → Option (List ℕ) → Verdict → Type 0
-IsJobVerdict tree None verdict = verdict ≡ Usage
-IsJobVerdict tree (Some config) verdict = IsTextVerdict tree config (bytes_at tree config) verdict
+abbrev pub IsJobVerdict : Tree → Option (List ℕ) → Verdict → List (List ℕ) → Type 0
+IsJobVerdict tree None verdict paths = IsEarly Usage verdict paths
+IsJobVerdict tree (Some config) verdict paths = IsTextVerdict tree config (bytes_at tree config) verdict paths
 
--- the verdict of words on a tree
-abbrev pub IsVerdict : List (List ℕ) → Tree → Verdict → Type 0
-IsVerdict words tree verdict = IsJobVerdict tree (config_path words) verdict
+-- the verdict of words on a tree, and the paths of the modules that it is made of
+abbrev pub IsVerdict : List (List ℕ) → Tree → Verdict → List (List ℕ) → Type 0
+IsVerdict words tree verdict paths = IsJobVerdict tree (config_path words) verdict paths
+
+-- the words name a configuration that isn't in the tree
+abbrev pub IsMissing : List (List ℕ) → Tree → Type 0
+IsMissing words tree = (config : List ℕ) × (config_path words ≡ Some config) × (bytes_at tree config ≡ None)
 
 -- what a fault of the configuration is called
 abbrev pub kind_name : ConfigKind → List ℕ

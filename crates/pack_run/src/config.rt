@@ -2,7 +2,7 @@ ghost use Rattle.std.specs.Prelude.{◌≡◌, ◌≤◌, length, OnSome, IfSome
 ghost use Rattle.std.specs.Option.{option_copied};
 ghost use Rattle.pack_run.specs.Config.{after_front, before_end, entry_of, entry_offset};
 
-use crate::request::plain_request;
+use make_rounds::plain_request;
 
 /// Where the quote of the entry's request stands.
 pub const ENTRY_OFFSET: u64 = 9;

@@ -1,27 +1,24 @@
-ghost use Rattle.std.specs.Prelude.{◌≡◌, ◌≤◌, length, map, is_some, string_bytes, IfOk, IsErrOf, MatchResult};
+ghost use Rattle.std.specs.Prelude.{◌≡◌, ◌≤◌, length, map, string_bytes, IfOk, IsErrOf, MatchResult};
 ghost use Rattle.outside.specs.Cause.{Rose};
-ghost use Rattle.outside.specs.Tree.{Tree, Told, bytes_at};
+ghost use Rattle.outside.specs.Tree.{Tree, Told};
 ghost use Rattle.tree_listing.specs.Listing.{lengths_of};
 ghost use Rattle.pack_run.specs.Config.{config_of, entry_offset};
+ghost use Rattle.pack_run.specs.Decision.{Decides};
 ghost use Rattle.pack_run.specs.Report.{CanReport};
-ghost use Rattle.pack_run.specs.Verdict.{start_of, outcome_of, IsConfigVerdict, IsVerdict};
+ghost use Rattle.pack_run.specs.Stop.{unlisted};
+ghost use Rattle.pack_run.specs.Verdict.{start_of, IsConfigVerdict, IsMissing, IsOutcome, IsVerdict};
 
 use crate::config::entry_of;
-use crate::module::{entry_path, module_verdict, start_of, unresolved};
+use crate::entry::{Entry, find_entry};
+use crate::outcome::outcome;
 use crate::stop::Stop;
 use crate::words::config_path;
 use crate::{ConfigKind, Verdict};
-use fault_place::MAX_TEXT;
+use fault_place::{MAX_TEXT, place_at};
+use make_rounds::make_one_at_a_time;
 use outside::{ReadGot, TreeReader, Why};
 use std::alloc::Global;
 use tree_listing::{ListEnd, Listing, list};
-
-/// Whether the tree that was listed has a file at a path.
-fn has_file(listing: &Listing, path: &str) -> bool
-    ensures { (tree : Tree) → listing.now.files ≡ lengths_of tree → result ≡ is_some (bytes_at tree path.now) }
-{
-    listing.find(path).is_some()
-}
 
 /// The verdict on the entry, once the configuration and the listing are there.
 fn decide_entry<R: TreeReader>(
@@ -36,17 +33,13 @@ fn decide_entry<R: TreeReader>(
     ensures follows { R.follows reader.old reader.new }
     ensures cause { IsErrOf result Stop.ReadFault → Rose (R.faults reader.old) (R.faults reader.new) }
     ensures reportable { IfOk result CanReport }
+    ensures no_stray { Told (R.tree reader.old) (λ tree. listing.now.files ≡ lengths_of tree → R.strays reader.new ≡ R.strays reader.old) }
     ensures told { Told (R.tree reader.old) (λ tree. listing.now.files ≡ lengths_of tree
-        → IfOk result (λ verdict. verdict ≡ outcome_of tree config.now text.now request.now)) }
+        → Decides (IsOutcome tree config.now text.now request.now) tree result (R.log reader.old) (R.log reader.new)) }
 {
-    let Some(path) = entry_path(alloc, request)? else {
-        return Ok(unresolved(alloc, config, text, request)?);
-    };
-    if !has_file(listing, path.get()) {
-        return Ok(unresolved(alloc, config, text, request)?);
-    }
-    let got = reader.read(alloc, path.get(), Why::Module, MAX_TEXT)?;
-    Ok(module_verdict(alloc, path.get(), &got)?)
+    let Entry { files, faults } = find_entry(alloc, listing, config, text, request)?;
+    let graph = make_one_at_a_time(alloc, reader, listing, files, faults)?;
+    Ok(outcome(alloc, &graph)?)
 }
 
 /// The verdict once the configuration's text is read.
@@ -59,24 +52,36 @@ fn decide_config<R: TreeReader>(
     ensures follows { R.follows reader.old reader.new }
     ensures cause { IsErrOf result Stop.ReadFault → Rose (R.faults reader.old) (R.faults reader.new) }
     ensures reportable { IfOk result CanReport }
+    ensures no_stray { Told (R.tree reader.old) (λ _. R.strays reader.new ≡ R.strays reader.old) }
     ensures told { Told (R.tree reader.old) (λ tree. length text.now ≤ 4_194_304
-        → IfOk result (IsConfigVerdict tree config.now text.now (config_of text.now))) }
+        → Decides (IsConfigVerdict tree config.now text.now (config_of text.now)) tree result (R.log reader.old) (R.log reader.new)) }
 {
     let Some(request) = entry_of(text) else {
         return Ok(bad_config(alloc, config, ConfigKind::NotYet)?);
     };
     match list(alloc, reader) {
         Ok(listing) => decide_entry(alloc, reader, &listing, config, text, request),
-        Err(ListEnd::Limit(limit)) => Ok(Verdict::Limit(limit)),
-        Err(ListEnd::Failed) => Err(Stop::ReadFault),
-        Err(ListEnd::NoMemory) => Err(Stop::NoMemory),
+        Err(end) => unlisted(end),
+    }
+}
+
+/// What a tree comes to that wasn't listed.
+fn unlisted(end: ListEnd) -> Result<Verdict, Stop>
+    ensures value { result ≡ unlisted end }
+    ensures failed { IsErrOf result Stop.ReadFault → end ≡ ListEnd.Failed }
+    ensures reportable { IfOk result CanReport }
+{
+    match end {
+        ListEnd::Limit(limit) => Ok(Verdict::Limit(limit)),
+        ListEnd::Failed => Err(Stop::ReadFault),
+        ListEnd::NoMemory => Err(Stop::NoMemory),
     }
 }
 
 fn bad_config(alloc: Global, config: &str, kind: ConfigKind) -> Result<Verdict, Stop>
     ensures { MatchResult result (λ verdict. verdict ≡ Verdict.Config (start_of config.now) kind) (λ stop. stop ≡ Stop.NoMemory) }
 {
-    let place = start_of(alloc, config)?;
+    let place = place_at(alloc, config, b"", 0)?;
     Ok(Verdict::Config { place, kind })
 }
 
@@ -89,7 +94,8 @@ pub fn decide<R: TreeReader>(
     ensures follows { R.follows reader.old reader.new }
     ensures cause { IsErrOf result Stop.ReadFault → Rose (R.faults reader.old) (R.faults reader.new) }
     ensures reportable { IfOk result CanReport }
-    ensures told { Told (R.tree reader.old) (λ tree. IfOk result (IsVerdict (map string_bytes words.now) tree)) }
+    ensures no_stray { Told (R.tree reader.old) (λ tree. (IsMissing (map string_bytes words.now) tree → ⊥) → R.strays reader.new ≡ R.strays reader.old) }
+    ensures told { Told (R.tree reader.old) (λ tree. Decides (IsVerdict (map string_bytes words.now) tree) tree result (R.log reader.old) (R.log reader.new)) }
 {
     let Some(config) = config_path(alloc, words)? else {
         return Ok(Verdict::Usage);

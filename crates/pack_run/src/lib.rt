@@ -1,17 +1,13 @@
 //! The top call: words, configuration, tree, modules and assets of a build.
 #![tactic(auto)]
 
-mod append;
 mod config;
 mod decide;
 mod end;
-mod entry_text;
-mod module;
+mod entry;
+mod outcome;
 mod output;
 mod report;
-mod request;
-mod runtime;
-mod stats;
 mod stop;
 mod top;
 mod verdict;

@@ -1,10 +1,13 @@
-ghost use Rattle.std.specs.Prelude.{◌≡◌, ◌<◌, ◌≤◌, map, string_bytes, vec_len};
+ghost use Rattle.std.specs.Prelude.{◌≡◌, ◌<◌, ◌≤◌, ◌++◌, ℕ, List, map, string_bytes, vec_len};
 ghost use Rattle.std.specs.List.{AllZip};
 ghost use Rattle.outside.specs.Cause.{Rose};
 ghost use Rattle.outside.specs.Tree.{Tree, Told};
-ghost use Rattle.pack_run.specs.End.{OnNothingPut};
+ghost use Rattle.outside.specs.declared.entry.Why.{Why};
+ghost use Rattle.pack_run.specs.End.{IsDecided, OnNothingPut};
+ghost use Rattle.pack_run.specs.Reads.{LogsGain};
 ghost use Rattle.pack_run.specs.Rose.{AnyZip};
 ghost use Rattle.pack_run.specs.Run.{AllTell, Ends, EndsBy, TriesLine, TriesLast};
+ghost use Rattle.pack_run.specs.Verdict.{IsMissing};
 
 use crate::End;
 use crate::decide::decide;
@@ -27,7 +30,9 @@ fn answer<R: TreeReader, S: AssetSink, L: LineSink>(
     ensures write_cause { result ≡ End.WriteFault → Rose (S.faults sink.old) (S.faults sink.new) }
     ensures line_cause { result ≡ End.LineFault → Rose (L.faults lines.old) (L.faults lines.new) }
     ensures nothing_put { OnNothingPut result (S.held sink.new ≡ S.held sink.old) }
-    ensures verdict { Told (R.tree reader.old) (λ tree. Ends (map string_bytes words.now) tree
+    ensures no_stray { Told (R.tree reader.old) (λ tree. (IsMissing (map string_bytes words.now) tree → ⊥) → R.strays reader.new ≡ R.strays reader.old) }
+    ensures verdict { Told (R.tree reader.old) (λ tree. (reads : List (List ℕ × Why)) × (R.log reader.new ≡ R.log reader.old ++ reads)
+        × Ends (map string_bytes words.now) tree reads
         (S.held sink.old) (S.held sink.new) (L.lines lines.old) (L.lines lines.new) result) }
 {
     match decide(alloc, words, reader) {
@@ -50,7 +55,9 @@ fn run_by<R: TreeReader, S: AssetSink, L: LineSink>(
     ensures write_cause { result ≡ End.WriteFault → Rose (S.faults sink.old) (S.faults sink.new) }
     ensures line_cause { result ≡ End.LineFault → Rose (L.faults lines.old) (L.faults lines.new) }
     ensures nothing_put { OnNothingPut result (S.held sink.new ≡ S.held sink.old) }
-    ensures verdict { Told (R.tree reader.old) (λ tree. EndsBy (map string_bytes words.now) tree
+    ensures no_stray { Told (R.tree reader.old) (λ tree. (IsMissing (map string_bytes words.now) tree → ⊥) → R.strays reader.new ≡ R.strays reader.old) }
+    ensures verdict { Told (R.tree reader.old) (λ tree. (reads : List (List ℕ × Why)) × (R.log reader.new ≡ R.log reader.old ++ reads)
+        × EndsBy (map string_bytes words.now) tree reads
         (S.held sink.old) (S.held sink.new) (L.lines lines.old) (L.lines lines.new) result) }
 {
     let end = answer(alloc, words, reader, sink, lines);
@@ -95,7 +102,11 @@ fn run_first<R: TreeReader, S: AssetSink, L: LineSink>(
     ensures write_cause { result ≡ End.WriteFault → Rose (S.faults sink.old) (S.faults sink.new) }
     ensures line_cause { result ≡ End.LineFault → Rose (L.faults lines.old) (L.faults lines.new) }
     ensures nothing_put { OnNothingPut result (S.held sink.new ≡ S.held sink.old) }
-    ensures verdict { (tree : Tree) → AllTell R.tree readers.old.items tree → EndsBy (map string_bytes words.now) tree
+    ensures no_stray { (tree : Tree) → AllTell R.tree readers.old.items tree → (IsMissing (map string_bytes words.now) tree → ⊥)
+        → AllZip (λ old new. R.strays new ≡ R.strays old) readers.old.items readers.new.items }
+    ensures verdict { (tree : Tree) → AllTell R.tree readers.old.items tree
+        → (reads : List (List ℕ × Why)) × LogsGain R.log readers.old.items readers.new.items reads
+        × EndsBy (map string_bytes words.now) tree reads
         (S.held sink.old) (S.held sink.new) (L.lines lines.old) (L.lines lines.new) result }
 {
     let reader = &mut readers[0];
@@ -119,8 +130,15 @@ pub fn run<R: TreeReader + Send, S: AssetSink, L: LineSink, Rt: Threads + Sync>(
     ensures read_cause { result ≡ End.ReadFault → AnyZip (λ old new. Rose (R.faults old) (R.faults new)) readers.old.items readers.new.items }
     ensures write_cause { result ≡ End.WriteFault → Rose (S.faults sink.old) (S.faults sink.new) }
     ensures line_cause { result ≡ End.LineFault → Rose (L.faults lines.old) (L.faults lines.new) }
+    // Where no count rose, the answer is the verdict or want of memory.
+    ensures decided { ¬ (AnyZip (λ old new. Rose (R.faults old) (R.faults new)) readers.old.items readers.new.items)
+        → ¬ (Rose (S.faults sink.old) (S.faults sink.new)) → ¬ (Rose (L.faults lines.old) (L.faults lines.new)) → IsDecided result }
     ensures nothing_put { OnNothingPut result (S.held sink.new ≡ S.held sink.old) }
-    ensures verdict { (tree : Tree) → AllTell R.tree readers.old.items tree → EndsBy (map string_bytes words.now) tree
+    ensures no_stray { (tree : Tree) → AllTell R.tree readers.old.items tree → (IsMissing (map string_bytes words.now) tree → ⊥)
+        → AllZip (λ old new. R.strays new ≡ R.strays old) readers.old.items readers.new.items }
+    ensures verdict { (tree : Tree) → AllTell R.tree readers.old.items tree
+        → (reads : List (List ℕ × Why)) × LogsGain R.log readers.old.items readers.new.items reads
+        × EndsBy (map string_bytes words.now) tree reads
         (S.held sink.old) (S.held sink.new) (L.lines lines.old) (L.lines lines.new) result }
 {
     let _ = rt;

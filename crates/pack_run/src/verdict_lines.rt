@@ -3,8 +3,8 @@ ghost use Rattle.fault_place.specs.Fault.{line_of};
 ghost use Rattle.fault_place.specs.Limit.{name_of, number_of};
 ghost use Rattle.pack_run.specs.Verdict.{kind_name, lines_of, config_line, limit_line, count_line, built_line};
 
-use crate::append::{add, add_around, add_number};
 use crate::{Build, ConfigKind, Verdict};
+use append_text::{add, add_around, add_number};
 use fault_place::{Bytes, Fault, Limit, NoMemory, Place, fault_line};
 use std::alloc::Global;
 

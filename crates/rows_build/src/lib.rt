@@ -4,4 +4,16 @@
 #[cfg(test)]
 mod builds;
 #[cfg(test)]
+mod command;
+#[cfg(test)]
+mod failures;
+#[cfg(test)]
+mod faults;
+#[cfg(test)]
+mod limits;
+#[cfg(test)]
+mod refusals;
+#[cfg(test)]
+mod runtime;
+#[cfg(test)]
 mod trees;
