@@ -1,0 +1,106 @@
+// How a command ends where it builds nothing: the status, the lines, and what is left in `dist`.
+import assert from 'node:assert/strict';
+import fs from 'node:fs';
+import { chunkpack, emitted, projectOf } from './command.mjs';
+
+const ENTRY = '{"entry":"./src/index.js"}';
+const WORDS = ['build', 'c.json'];
+const USAGE = 'usage: chunkpack build CONFIG\n';
+const MOST_BYTES = 4_194_304;
+const MOST_PATH_BYTES = 1_024;
+
+function checkEnd(files, words, status, printed) {
+  const folder = projectOf(files);
+  assert.deepEqual(chunkpack(folder, words), { status, printed });
+  assert.deepEqual(emitted(folder), {});
+}
+
+function build(files, status, printed) {
+  checkEnd({ 'c.json': ENTRY, ...files }, WORDS, status, printed);
+}
+
+function longPath(bytes) {
+  const folders = `${'f'.repeat(99)}/`.repeat(10);
+  return folders + 'x'.repeat(bytes - folders.length);
+}
+
+function unresolved() {
+  build({}, 1, 'c.json:1:10: B9 cannot resolve "./src/index.js"\nfaults: 1\n');
+  build({ 'src/index.js': 'import "./a.js";\nimport "../../up.js";\n', 'src/a.js': 'import "./gone.js";' }, 1,
+    'src/a.js:1:8: B9 cannot resolve "./gone.js"\n'
+    + 'src/index.js:2:8: B9 cannot resolve "../../up.js"\nfaults: 2\n');
+}
+
+function notYet() {
+  for (const text of ['let a = 1;\n', ' import "./a.js";', '\n', "import './a.js';", 'import "./a.js"', 'import "a";']) {
+    build({ 'src/index.js': text, 'src/a.js': '' }, 1, 'src/index.js:1:1: B20 form is not built yet\nfaults: 1\n');
+  }
+  build({ 'src/index.js': 'import "./a.js";\nexport {};\n', 'src/a.js': '' }, 1,
+    'src/index.js:2:1: B20 form is not built yet\nfaults: 1\n');
+}
+
+function tooLong() {
+  build({ 'src/index.js': Buffer.alloc(MOST_BYTES + 1) }, 1, 'src/index.js:1:1: B19 module is too long\nfaults: 1\n');
+  build({ 'src/index.js': Buffer.alloc(MOST_BYTES) }, 1, 'src/index.js:1:1: B20 form is not built yet\nfaults: 1\n');
+  build({ 'c.json': Buffer.alloc(MOST_BYTES + 1) }, 2, 'c.json:1:1: config TooLong\n');
+}
+
+function badWords() {
+  const refused = [[], ['build'], ['build', 'c.json', 'more'], ['pack', 'c.json'], ['build', '-c.json'], ['--help'],
+    ['build', '../c.json'], ['build', '/c.json'], ['build', '.']];
+  for (const words of refused) checkEnd({ 'c.json': ENTRY, 'src/index.js': '' }, words, 2, USAGE);
+}
+
+function badConfiguration() {
+  const texts = ['', '{}', '{"entry":"src/index.js"}', '{"entry":"./src/index.mjs"}', `${ENTRY}\n\n`, ` ${ENTRY}`,
+    '{"entry": "./src/index.js"}', '{"entry":"./src/index.js","mode":"none"}'];
+  for (const text of texts) build({ 'c.json': text, 'src/index.js': '' }, 2, 'c.json:1:1: config NotYet\n');
+}
+
+function missingConfiguration() {
+  checkEnd({ 'src/index.js': '' }, WORDS, 3, 'read failed\n');
+  checkEnd({ 'c.json/x': '' }, WORDS, 3, 'read failed\n');
+}
+
+function longestPath() {
+  build({ 'src/index.js': '', [longPath(MOST_PATH_BYTES + 1)]: '' }, 6, 'limit: PathBytes above 1024\n');
+  const folder = projectOf({ 'c.json': ENTRY, 'src/index.js': '', [longPath(MOST_PATH_BYTES)]: '' });
+  assert.equal(chunkpack(folder, WORDS).status, 0);
+}
+
+function noFolderToWrite() {
+  const folder = projectOf({ 'c.json': ENTRY, 'src/index.js': '', dist: 'a file\n' });
+  assert.deepEqual(chunkpack(folder, WORDS), { status: 4, printed: 'write failed\n' });
+  assert.equal(fs.readFileSync(`${folder}/dist`, 'utf8'), 'a file\n');
+}
+
+function earlierBuildStays() {
+  const folder = projectOf({ 'c.json': ENTRY, 'src/index.js': '' });
+  assert.equal(chunkpack(folder, WORDS).status, 0);
+  const before = emitted(folder);
+  fs.writeFileSync(`${folder}/src/index.js`, 'let a;');
+  assert.equal(chunkpack(folder, WORDS).status, 1);
+  assert.deepEqual(emitted(folder), before);
+}
+
+function noPlaceForLines() {
+  const folder = projectOf({ 'c.json': ENTRY, 'src/index.js': '' });
+  const full = fs.openSync('/dev/full', 'w');
+  assert.deepEqual(chunkpack(folder, WORDS, full), { status: 4, printed: '' });
+  fs.closeSync(full);
+  assert.deepEqual(Object.keys(emitted(folder)), ['main.js', 'stats.json']);
+}
+
+export async function checkEnds(tally) {
+  await tally.check('a request that names no file is B9', unresolved);
+  await tally.check('a text that is not read is B20', notYet);
+  await tally.check('texts above the limit', tooLong);
+  await tally.check('words out of the grammar', badWords);
+  await tally.check('a configuration without a meaning', badConfiguration);
+  await tally.check('a configuration that is missing', missingConfiguration);
+  await tally.check('the longest path', longestPath);
+  await tally.check('assets that cannot be written', noFolderToWrite);
+  await tally.check('what an earlier build left stays at a fault', earlierBuildStays);
+  if (fs.existsSync('/dev/full')) await tally.check('lines that cannot be written', noPlaceForLines);
+  else tally.skip('lines that cannot be written', 'this system has no /dev/full');
+}

@@ -1,0 +1,22 @@
+// Builds projects with the bundler and runs what comes out as a page does. `run.sh` finds Node and calls it. The last line
+// counts what passed, failed and was skipped, and the status is 1 where something failed.
+import { findBrowser } from './browser.mjs';
+import { checkProject } from './built.mjs';
+import { checkProgram } from './command.mjs';
+import { checkEnds } from './ends.mjs';
+import { checkInstall } from './install.mjs';
+import { checkLoading } from './loading.mjs';
+import { projects } from './projects.mjs';
+import { Tally } from './tally.mjs';
+
+const tally = new Tally();
+const browser = findBrowser();
+// Without a program there is nothing to ask, and each command would try to build it again.
+await tally.check('the program is there', checkProgram);
+if (tally.failed === 0) {
+  for (const { name, make } of projects) await checkProject(tally, name, make(), browser);
+  await checkLoading(tally);
+  await checkEnds(tally);
+  await checkInstall(tally);
+}
+process.exitCode = tally.finish();

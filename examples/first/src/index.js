@@ -1,0 +1,3 @@
+import "./setup.js";
+import "./pages/home.js";
+import "./pages/about.js";

@@ -1,0 +1,2 @@
+import "../shared/base.js";
+import "./home.js";

@@ -1,0 +1,2 @@
+import "../shared/theme.js";
+import "./about.js";
