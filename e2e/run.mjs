@@ -1,5 +1,5 @@
-// Builds projects with the bundler and runs what comes out as a page does. `run.sh` finds Node and calls it. The last line
-// counts what passed, failed and was skipped, and the status is 1 where something failed.
+// Builds projects with the bundler and runs what comes out as a page does. `run.sh` finds Node and calls it. The last lines
+// count what was skipped, and what passed and failed; the status is 1 where something failed.
 import { findBrowser } from './browser.mjs';
 import { checkProject } from './built.mjs';
 import { checkProgram } from './command.mjs';

@@ -3,7 +3,7 @@
 set -eu
 if ! command -v node >/dev/null 2>&1; then
     echo 'skipped: node is not on PATH'
-    echo '0 passed, 0 failed, 1 skipped'
+    echo '0 passed, 0 failed'
     exit 0
 fi
 here=$(CDPATH='' cd -- "$(dirname -- "$0")" && pwd)

@@ -20,10 +20,10 @@ export class Tally {
     console.log(`skipped: ${name}: ${why}`);
   }
 
-  // The last line, and the exit status.
+  // The last lines, and the exit status.
   finish() {
-    const skips = this.skipped > 0 ? `, ${this.skipped} skipped` : '';
-    console.log(`${this.passed} passed, ${this.failed} failed${skips}`);
+    if (this.skipped > 0) console.log(`${this.skipped} skipped`);
+    console.log(`${this.passed} passed, ${this.failed} failed`);
     return this.failed > 0 ? 1 : 0;
   }
 }
