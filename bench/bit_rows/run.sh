@@ -3,14 +3,8 @@
 # in C at -O2, on this machine in one run. The program in Rattle is made in a temporary folder, over
 # a copy of the crate.
 set -eu
-here=$(cd "$(dirname "$0")" && pwd)
-root=$(cd "$here/../.." && pwd)
-work=$(mktemp -d)
-trap 'rm -rf "$work"' EXIT
-
-mkdir -p "$work/crates/bench/src" "$work/crates/bench/specs" "$work/crates/bench/proofs"
-cp -r "$root/crates/bit_rows" "$work/crates/bit_rows"
-rm -rf "$work/crates/bit_rows/must-fail"
+. "$(dirname "$0")/../workspace.sh"
+copy_crates bit_rows
 printf 'bit_rows:\nbench: bit_rows\n' >"$work/crates.txt"
 cat >"$work/crates/bench/src/main.rt" <<'RATTLE'
 #![tactic(auto)]

@@ -3,16 +3,8 @@
 # acorn that Node carries, on this machine in one run. The program in Rattle is made in a temporary folder.
 set -eu
 folder=${1:-/usr/lib/node_modules}
-here=$(cd "$(dirname "$0")" && pwd)
-root=$(cd "$here/../.." && pwd)
-work=$(mktemp -d)
-trap 'rm -rf "$work"' EXIT
-
-mkdir -p "$work/crates/bench/src" "$work/crates/bench/specs" "$work/crates/bench/proofs"
-for crate in es_tokens fault_place; do
-    cp -r "$root/crates/$crate" "$work/crates/$crate"
-    rm -rf "$work/crates/$crate/must-fail"
-done
+. "$(dirname "$0")/../workspace.sh"
+copy_crates es_tokens fault_place
 printf 'bench: es_tokens fault_place\nes_tokens: fault_place unicode_ident\nfault_place:\n' >"$work/crates.txt"
 cat >"$work/crates/bench/src/main.rt" <<'RATTLE'
 #![tactic(auto)]

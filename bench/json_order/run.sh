@@ -2,16 +2,8 @@
 # Times the JSON reader over an object of 4 MiB and over 4 MiB of nested lists, beside Node's JSON.parse and Python's json,
 # on this machine in one run. The program in Rattle is made in a temporary folder.
 set -eu
-here=$(cd "$(dirname "$0")" && pwd)
-root=$(cd "$here/../.." && pwd)
-work=$(mktemp -d)
-trap 'rm -rf "$work"' EXIT
-
-mkdir -p "$work/crates/bench/src" "$work/crates/bench/specs" "$work/crates/bench/proofs"
-for crate in json_order fault_place; do
-    cp -r "$root/crates/$crate" "$work/crates/$crate"
-    rm -rf "$work/crates/$crate/must-fail"
-done
+. "$(dirname "$0")/../workspace.sh"
+copy_crates json_order fault_place
 printf 'bench: json_order\nfault_place:\njson_order: fault_place indexmap\n' >"$work/crates.txt"
 cat >"$work/crates/bench/src/main.rt" <<'RATTLE'
 #![tactic(auto)]
