@@ -8,7 +8,7 @@ import { fileURLToPath } from 'node:url';
 export const repository = path.dirname(path.dirname(fileURLToPath(import.meta.url)));
 
 // CHUNKPACK names another program to try, as one that was installed.
-const program = path.resolve(process.env.CHUNKPACK ?? path.join(repository, 'bin', 'chunkpack'));
+export const command = path.resolve(process.env.CHUNKPACK ?? path.join(repository, 'bin', 'chunkpack'));
 
 const made = [];
 process.on('exit', removeFolders);
@@ -31,7 +31,7 @@ export function copyOf(source) {
   return folder;
 }
 
-function temporaryFolder() {
+export function temporaryFolder() {
   const folder = fs.mkdtempSync(path.join(os.tmpdir(), 'chunkpack-e2e-'));
   made.push(folder);
   return folder;
@@ -41,17 +41,30 @@ function removeFolders() {
   for (const folder of made) fs.rmSync(folder, { recursive: true, force: true });
 }
 
-// The status and the printed lines of a command. What it tells on standard error is passed on.
-export function chunkpack(folder, words, stdout = 'pipe') {
-  const ran = spawnSync(program, words, { cwd: folder, stdio: ['ignore', stdout, 'inherit'], encoding: 'utf8' });
+// The status and the printed lines of a program. What it tells on standard error is passed on.
+export function run(program, words, options = {}) {
+  const ran = spawnSync(program, words, { stdio: ['ignore', 'pipe', 'inherit'], encoding: 'utf8', ...options });
   if (ran.error) throw ran.error;
   return { status: ran.status, printed: ran.stdout ?? '' };
+}
+
+export function chunkpack(folder, words, options = {}) {
+  return run(command, words, { cwd: folder, ...options });
+}
+
+export function isOnPath(tool) {
+  return spawnSync(tool, ['--version'], { stdio: 'ignore' }).error === undefined;
+}
+
+// The program itself, which needs nothing of the repository.
+export function programPath() {
+  return process.env.CHUNKPACK ? command : run(path.join(repository, 'bin', 'program'), []).printed.trimEnd();
 }
 
 // bin/chunkpack builds the program where that is needed, and has a status of its own where it can't.
 export function checkProgram() {
   const { status, printed } = chunkpack(temporaryFolder(), []);
-  if (status !== 2) throw new Error(`${program} ended with ${status}: ${printed}`);
+  if (status !== 2) throw new Error(`${command} ended with ${status}: ${printed}`);
 }
 
 // The emitted files by name, in one order.

@@ -86,7 +86,7 @@ function earlierBuildStays() {
 function noPlaceForLines() {
   const folder = projectOf({ 'c.json': ENTRY, 'src/index.js': '' });
   const full = fs.openSync('/dev/full', 'w');
-  assert.deepEqual(chunkpack(folder, WORDS, full), { status: 4, printed: '' });
+  assert.deepEqual(chunkpack(folder, WORDS, { stdio: ['ignore', full, 'inherit'] }), { status: 4, printed: '' });
   fs.closeSync(full);
   assert.deepEqual(Object.keys(emitted(folder)), ['main.js', 'stats.json']);
 }

@@ -1,21 +1,15 @@
 // bin/install copies the program to where it needs nothing of the repository.
 import assert from 'node:assert/strict';
-import { spawnSync } from 'node:child_process';
 import path from 'node:path';
-import { projectOf, repository } from './command.mjs';
+import { projectOf, repository, run } from './command.mjs';
 
 const INSTALL = path.join(repository, 'bin', 'install');
 
-function run(program, words, folder) {
-  const { status, stdout } = spawnSync(program, words, { cwd: folder, stdio: ['ignore', 'pipe', 'inherit'], encoding: 'utf8' });
-  return { status, printed: stdout };
-}
-
 function installs() {
   const folder = projectOf({ 'c.json': '{"entry":"./a.js"}', 'a.js': '' });
-  assert.deepEqual(run(INSTALL, ['there'], folder), { status: 0, printed: 'installed there/bin/chunkpack\n' });
+  assert.deepEqual(run(INSTALL, ['there'], { cwd: folder }), { status: 0, printed: 'installed there/bin/chunkpack\n' });
   const program = path.join(folder, 'there', 'bin', 'chunkpack');
-  assert.deepEqual(run(program, ['build', 'c.json'], folder), { status: 0, printed: 'built: 1 modules, 1 chunks, 2 assets\n' });
+  assert.deepEqual(run(program, ['build', 'c.json'], { cwd: folder }), { status: 0, printed: 'built: 1 modules, 1 chunks, 2 assets\n' });
 }
 
 export async function checkInstall(tally) {

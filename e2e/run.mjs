@@ -6,8 +6,11 @@ import { checkProgram } from './command.mjs';
 import { checkEnds } from './ends.mjs';
 import { checkInstall } from './install.mjs';
 import { checkLoading } from './loading.mjs';
+import { checkPlaces } from './places.mjs';
 import { projects } from './projects.mjs';
+import { checkRelease } from './release.mjs';
 import { Tally } from './tally.mjs';
+import { checkWords } from './words.mjs';
 
 const tally = new Tally();
 const browser = findBrowser();
@@ -17,6 +20,9 @@ if (tally.failed === 0) {
   for (const { name, make } of projects) await checkProject(tally, name, make(), browser);
   await checkLoading(tally);
   await checkEnds(tally);
+  await checkWords(tally);
+  await checkPlaces(tally);
   await checkInstall(tally);
+  await checkRelease(tally);
 }
 process.exitCode = tally.finish();

@@ -1,6 +1,6 @@
 #!/bin/sh
-# Times the JSON reader over an object of 4 MiB and over 4 MiB of nested lists, beside Node's JSON.parse and Python's json,
-# on this machine in one run. The program in Rattle is made in a temporary folder.
+# Times the JSON reader over objects and lists of 4 MiB, beside Node's JSON.parse and Python's json, on this machine in one
+# run, and tells the peak of its memory. The program in Rattle is made in a temporary folder.
 set -eu
 . "$(dirname "$0")/../workspace.sh"
 copy_crates json_order fault_place
@@ -45,8 +45,27 @@ def fill(part, first, last):
         at += 1
     return first + ",".join(out) + last
 open(work + "/object.json", "w").write(fill(lambda at: '"key%d":%d' % (at, at), "{", "}"))
+# keys of as many bytes, and such keys that all hash alike by the kit's hasher of fixed seed
+mask = 2 ** 64 - 1
+def folded(a, b):
+    return (a * b & mask) ^ (a * b >> 64)
+def number(text):
+    return int.from_bytes(text.encode(), "little")
+def alike():
+    first = 0x243f6a8885a308d3 + 32
+    for at in range(10 ** 7):
+        prefix = "%016d" % at
+        state = folded(number(prefix[:8]) ^ first & mask, number(prefix[8:]) ^ 0x9e3779b97f4a7c15)
+        middle = state.to_bytes(8, "little")
+        if all(0x30 <= byte < 0x5b or 0x5e <= byte < 0x7f for byte in middle):
+            return prefix + middle.decode()
+start = alike()
+open(work + "/long_keys.json", "w").write(fill(lambda at: '"%024d%08d":0' % (at * 7919, at), "{", "}"))
+open(work + "/colliding.json", "w").write(fill(lambda at: '"%s%08d":0' % (start, at), "{", "}"))
+open(work + "/objects.json", "w").write(fill(lambda at: '{"a":' * 126 + "0" + "}" * 126, "[", "]"))
+open(work + "/numbers.json", "w").write(fill(lambda at: "0", "[", "]"))
 open(work + "/one_key.json", "w").write(fill(lambda at: '"key":%d' % at, "{", "}"))
-open(work + "/lists.json", "w").write(fill(lambda at: "[" * 40 + str(at) + "]" * 40, "[", "]"))
+open(work + "/lists.json", "w").write(fill(lambda at: "[" * 126 + "]" * 126, "[", "]"))
 PYTHON
 (cd "$work/crates/bench" && rt run </dev/null >/dev/null 2>"$work/log") || { cat "$work/log" >&2; exit 1; }
 cat >"$work/peer.js" <<'NODE'
@@ -70,12 +89,17 @@ for _ in range(5):
     best = took if best is None else min(best, took)
 print(best)
 PYTHON
-for name in object one_key lists; do
-    echo "$work/$name.json" | "$work/crates/bench/out/bench" >"$work/ours"
+cat >"$work/peak.py" <<'PYTHON'
+import resource, subprocess, sys
+told = subprocess.run([sys.argv[1]], input=sys.argv[2].encode() + b"\n", capture_output=True, check=True).stdout.decode().strip()
+print(told, resource.getrusage(resource.RUSAGE_CHILDREN).ru_maxrss * 1024)
+PYTHON
+for name in object long_keys colliding one_key lists objects numbers; do
+    python3 "$work/peak.py" "$work/crates/bench/out/bench" "$work/$name.json" >"$work/ours"
     node=$(command -v node >/dev/null && node "$work/peer.js" "$work/$name.json" || echo 0)
     python=$(python3 "$work/peer.py" "$work/$name.json")
     awk -v name="$name" -v node="$node" -v python="$python" '{
-        printf "%s: %d bytes, read %s; json_order %.1f MB/s", name, $1, $3, $1 / ($2 / 1e9) / 1e6
+        printf "%s: %d bytes, read %s; json_order %.1f MB/s, peak %.1f bytes for a byte", name, $1, $3, $1 / ($2 / 1e9) / 1e6, $4 / $1
         if (node > 0) printf ", JSON.parse %.1f MB/s (ratio %.2f)", $1 / (node / 1e9) / 1e6, node / $2
         printf ", Python %.1f MB/s (ratio %.2f)\n", $1 / (python / 1e9) / 1e6, python / $2
     }' "$work/ours"

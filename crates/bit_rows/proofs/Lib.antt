@@ -1,4 +1,5 @@
 pub mod Blocks
+pub mod CommonPlaces
 pub mod Counts
 pub mod NextPlaces
 pub mod Packed

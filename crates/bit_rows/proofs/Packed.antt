@@ -1,5 +1,5 @@
 -- Words that hold a row: what each of their bits says of the row.
-use Rattle.std.proofs.Common.{◌≡◌, ◌≢◌, ℕ, zero, suc, ◌+◌, ◌*◌, ◌/◌, ◌%◌, ◌^◌, ◌<◌, ◌≤◌, min, Bool, true, false, cond, eqb, List, [], ◌∷◌, ◌++◌, length, get_or, set, take, drop, replicate, refl, sym, ap, ◌∙◌, subst, inl, inr, arith, bit_and}
+use Rattle.std.proofs.Common.{◌≡◌, ◌≢◌, ℕ, zero, suc, ◌+◌, ◌-◌, ◌*◌, ◌/◌, ◌%◌, ◌^◌, ◌<◌, ◌≤◌, min, Bool, true, false, cond, eqb, List, [], ◌∷◌, ◌++◌, length, get_or, set, take, drop, replicate, refl, sym, ap, ◌∙◌, subst, inl, inr, arith, bit_and}
 use Rattle.std.specs.Bool.{MatchBool}
 use Rattle.std.specs.Int.{bit_at}
 use Rattle.std.specs.List.{count_by, sum_by}
@@ -10,7 +10,8 @@ use Rattle.std.proofs.lemmas.List.{length-take, length-drop, length-append, leng
 use Rattle.std.proofs.lemmas.List.FromFn.{length-map-range_with_len, get_or-map-range_with_len}
 use Rattle.std.proofs.lemmas.List.Sums.{sum_by-append, sum_by_more}
 use Rattle.std.proofs.Math.Seq.{take-add}
-use Rattle.std.proofs.lemmas.Nat.Bits.{same_from_bits_below, bit_at-lt, bit_at_and}
+use Rattle.std.proofs.lemmas.Nat.Bits.{same_from_bits_below, bit_at-lt, bit_at-zero, bit_at_and, bit_at_ones, bit_at_ones_above}
+use Rattle.std.proofs.Math.Nat.{pow-le-pow_right}
 use Rattle.std.proofs.lemmas.Nat.{and_le_l}
 use Rattle.std.proofs.lemmas.Simd.{bit_mask_l, get_or-chunk, get_or-zip2, length-zip2, ones-mask_l}
 use Rattle.bit_rows.specs.Masks.{mask_below}
@@ -87,6 +88,39 @@ packed_nil = record { enough = omega arith; fewest = omega arith; packed = λ k.
 pub packed_blank : (m n : ℕ) → n ≤ 64 * m → 64 * m < n + 64 → IsPacked (replicate m 0) (replicate n false)
 packed_blank m n enough fewest = packed_grown [] [] m n packed_nil (omega arith) (omega arith)
 
+-- words of all bits but the last, which has those of the places that are left
+pub packed_full : (n last w : ℕ) → 64 * last < n → n ≤ 64 * (last + 1) → w ≡ 2 ^ (n - 64 * last) - 1 → IsPacked (set (replicate (last + 1) (2 ^ 64 - 1)) last w) (replicate n true)
+packed_full n last w low high is =
+    let ones = replicate (last + 1) (2 ^ 64 - 1) in
+    let ws = set ones last w in
+    let many = length-replicate {A = ℕ} (last + 1) (2 ^ 64 - 1) in
+    let long : length ws ≡ last + 1 = length-set ones last w ∙ many in
+    let wide : length (replicate n true) ≡ n = length-replicate n true in
+    let own : get_or ws last 0 ≡ 2 ^ (n - 64 * last) - 1 = get_or-set_same ones last w 0 (omega (arith, many)) ∙ is in
+    let other : (k : ℕ) → k < last → get_or ws k 0 ≡ 2 ^ 64 - 1 = λ k l.
+    get_or-set_other ones last k w 0 (λ e. absurd (omega arith)) ∙ get_or-replicate (last + 1) k (2 ^ 64 - 1) 0 (omega arith) in
+    packed_from_bits _ _ (omega (arith, long, wide)) (omega (arith, long, wide))
+    (λ k. elim (cases_lt k last) [
+      | inl l ↦ rw (other k l) (omega arith)
+      | inr g ↦ elim (cases_eq k last) [
+        | inl e ↦ rw (e, own) (omega (arith, pow-le-pow_right {n = 2} (omega arith) (let short : n - 64 * last ≤ 64 = omega arith in short)))
+        | inr d ↦ rw (get_or_past ws k 0 (omega (arith, long))) (omega arith)
+      ]
+    ])
+    (λ k i l. elim (cases_lt k last) [
+      | inl before ↦ ap (λ v. bit_at v i) (other k before) ∙ bit_at_ones 64 i l ∙ sym (ap (λ b. cond b 1 0) (get_or-replicate n (64 * k + i) true false (omega arith)))
+      | inr g ↦ elim (cases_eq k last) [
+        | inl e ↦ elim (cases_lt i (n - 64 * last)) [
+          | inl within ↦ ap (λ j. bit_at (get_or ws j 0) i) e ∙ ap (λ v. bit_at v i) own ∙ bit_at_ones (n - 64 * last) i within
+              ∙ sym (ap (λ b. cond b 1 0) (get_or-replicate n (64 * k + i) true false (omega arith)))
+          | inr above ↦ ap (λ j. bit_at (get_or ws j 0) i) e ∙ ap (λ v. bit_at v i) own ∙ bit_at_ones_above (n - 64 * last) i above
+              ∙ sym (ap (λ b. cond b 1 0) (get_or_past (replicate n true) (64 * k + i) false (omega (arith, wide))))
+        ]
+        | inr d ↦ ap (λ v. bit_at v i) (get_or_past ws k 0 (omega (arith, long))) ∙ bit_at-zero i
+            ∙ sym (ap (λ b. cond b 1 0) (get_or_past (replicate n true) (64 * k + i) false (omega (arith, wide))))
+      ]
+    ])
+
 -- one bit of one word, for one place
 pub packed_set : (ws : List ℕ) (row : List Bool) (at w : ℕ) (to : Bool) → IsPacked ws row → at < length row → w < 2 ^ 64 → bit_at w (at % 64) ≡ cond to 1 0
     → ((i : ℕ) → i < 64 → i ≢ at % 64 → bit_at w i ≡ bit_at (get_or ws (at / 64) 0) i) → IsPacked (set ws (at / 64) w) (set row at to)
@@ -122,7 +156,7 @@ chunk-zip2 f i n xs ys e = ap (take n) (drop-zip2 f i xs ys e) ∙ take-zip2 f n
 
 -- the words and the bits of two rows, combined
 module _ (word : ℕ → ℕ → ℕ) (bit : Bool → Bool → Bool) (by_bits : (xs ys : List Bool) → length xs ≡ length ys → length xs ≤ 64 → word (mask_l xs) (mask_l ys) ≡ mask_l (zip2 bit xs ys)) where
-  get_or-combined : (vs ws : List ℕ) (k : ℕ) → length vs ≡ length ws → get_or (zip2 word vs ws) k 0 ≡ word (get_or vs k 0) (get_or ws k 0)
+  pub get_or-combined : (vs ws : List ℕ) (k : ℕ) → length vs ≡ length ws → get_or (zip2 word vs ws) k 0 ≡ word (get_or vs k 0) (get_or ws k 0)
   get_or-combined vs ws k e =
       elim (cases_lt k (length vs)) [
         | inl l ↦ get_or-zip2 word vs ws k 0 0 0 l (omega arith)

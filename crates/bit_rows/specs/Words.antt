@@ -16,6 +16,12 @@ pub record IsCombined (word : ℕ → ℕ → ℕ) (old other new : List ℕ) (s
 abbrev pub GivesNone : (ℕ → ℕ → ℕ) → List ℕ → List ℕ → ℕ → ℕ → Type 0
 GivesNone word words others start end = (k : ℕ) → start ≤ k → k < end → word (slice_index words k) (slice_index others k) ≡ 0
 
+-- the operation gives a bit at this pair of words, and none at those before
+pub record GivesFirst (word : ℕ → ℕ → ℕ) (words others : List ℕ) (k : ℕ) : Type 0 where
+  pub within : k < length words
+  pub some : word (slice_index words k) (slice_index others k) ≢ 0
+  pub none : GivesNone word words others 0 k
+
 -- the word is not zero, it is not below `from`, and those between are zero
 pub record IsNextWord (words : List ℕ) (from k : ℕ) : Type 0 where
   pub not_below : from ≤ k

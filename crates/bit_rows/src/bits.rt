@@ -1,6 +1,6 @@
 //! The bits of one word, and the next word that has any.
 
-ghost use Rattle.std.specs.Prelude.{◌≡◌, ◌≢◌, ℕ, ◌<◌, ◌≤◌, MatchOption, slice_index, if◌then◌else◌};
+ghost use Rattle.std.specs.Prelude.{◌≡◌, ◌≢◌, ℕ, ◌-◌, ◌^◌, ◌<◌, ◌≤◌, MatchOption, slice_index, if◌then◌else◌};
 ghost use Rattle.std.specs.Int.{bit_at};
 ghost use Rattle.bit_rows.specs.Words.{IsNextWord};
 
@@ -23,6 +23,17 @@ pub(crate) fn bits_from(word: u64, place: u32) -> u64
     ensures kept { (i : ℕ) → place ≤ i → i < 64 → bit_at result i ≡ bit_at word i }
 {
     word & (u64::MAX << place)
+}
+
+/// The word whose bits below the place are set, and no others.
+pub(crate) fn bits_below(place: u32) -> u64
+    requires { place ≤ 64 }
+    ensures { result ≡ 2 ^ place - 1 }
+{
+    if place == WORD_BITS {
+        return u64::MAX;
+    }
+    (1u64 << place) - 1
 }
 
 /// The first word from `from` on that is not zero.

@@ -1,15 +1,15 @@
 //! A row of truth values.
 
-ghost use Rattle.std.specs.Prelude.{◌≡◌, ◌≢◌, ◌-◌, ◌<◌, ◌≤◌, ◌↔◌, ◌++◌, false, length, slice_index_or, slice_set, IfOk, OnOk, OnErr, IsTrue, MatchOption};
+ghost use Rattle.std.specs.Prelude.{◌≡◌, ◌≢◌, ◌-◌, ◌<◌, ◌≤◌, ◌↔◌, ◌++◌, false, true, length, replicate, slice_index_or, slice_set, IfOk, OnOk, OnErr, IsTrue, MatchOption};
 ghost use Rattle.std.specs.Bool.{MatchBool};
 ghost use Rattle.std.specs.List.{count_by};
 ghost use Rattle.std.specs.Simd.Lanes.{zip2};
 ghost use Rattle.bit_rows.specs.Places.{union, meet, minus, IsSubset, NoneTrue, IsNext};
 ghost use Rattle.bit_rows.specs.Table.{blank};
 
-use crate::bits::{WORD_BITS, bits_from, next_word, with_bit};
+use crate::bits::{WORD_BITS, bits_below, bits_from, next_word, with_bit};
 use crate::combining::combine;
-use crate::comparing::{are_zero, is_none};
+use crate::comparing::{are_zero, first_of_some, is_none};
 use crate::counting::count_of_ones;
 use crate::operations::{Differ, Meet, Minus, Union, WordOperation};
 use std::alloc::{AllocError, Global};
@@ -40,6 +40,19 @@ impl BitRow {
         ensures { IfOk result (λ row. row ≡ blank len) }
     {
         let words = vec![in alloc; 0u64; len.div_ceil(WORD_BITS) as usize]?;
+        Ok(BitRow { len, words })
+    }
+
+    /// A row with every place true.
+    pub fn full(alloc: Global, len: u32) -> Result<BitRow, AllocError>
+        ensures { IfOk result (λ row. row ≡ replicate len true) }
+    {
+        if len == 0 {
+            return BitRow::new(alloc, 0);
+        }
+        let last = (len - 1) / WORD_BITS;
+        let mut words = vec![in alloc; u64::MAX; last as usize + 1]?;
+        words[last as usize] = bits_below(len - WORD_BITS * last);
         Ok(BitRow { len, words })
     }
 
@@ -74,6 +87,14 @@ impl BitRow {
     {
         let k = (at / WORD_BITS) as usize;
         self.words[k] = with_bit(self.words[k], at % WORD_BITS, to);
+    }
+
+    /// Makes this row the same as the other.
+    pub fn copy_from(&mut self, other: &BitRow)
+        requires { length self.old ≡ length other.now }
+        ensures { self.new ≡ other.now }
+    {
+        self.words.copy_from_slice(&other.words);
     }
 
     /// Adds the true places of the other row, and says whether that changed this one.
@@ -153,5 +174,16 @@ impl BitRow {
         }
         let k = next_word(&self.words, own + 1)?;
         Some(WORD_BITS * k as u32 + self.words[k].trailing_zeros())
+    }
+
+    /// The least place that is true in both rows.
+    pub fn first_common(&self, other: &BitRow) -> Option<u32>
+        requires { length self.now ≡ length other.now }
+        ensures { MatchOption result (NoneTrue (meet self.now other.now) 0 (length self.now))
+            (IsNext (meet self.now other.now) 0) }
+    {
+        let k = first_of_some::<Meet>(&self.words, &other.words)?;
+        let common = self.words[k] & other.words[k];
+        Some(WORD_BITS * k as u32 + common.trailing_zeros())
     }
 }

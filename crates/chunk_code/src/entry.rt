@@ -2,8 +2,8 @@ ghost use Rattle.std.specs.Prelude.{◌≡◌, ◌++◌, flat_map, OnOk, IfOk};
 ghost use Rattle.chunk_code.specs.Texts.{line_end, members_text, add_text, runtime_text, start_text, startup_text, entry_text};
 
 use crate::runtime::runtime_functions;
-use append_text::{add, add_around, add_number};
 use fault_place::{Bytes, ModuleNo, NoMemory};
+use pack_util::{add, add_around, add_number};
 use std::alloc::Global;
 
 fn add_runtime(text: &mut Vec<u8>) -> Result<(), NoMemory>

@@ -3,7 +3,8 @@ use Rattle.std.proofs.Common.{ℕ, zero, suc, ◌≡◌, ◌+◌, ◌<◌, ◌�
 use mathlib.Core.List.{reverse_aux}
 use Rattle.std.specs.Prelude.{false, IfOk, reverse, map, ◌++◌, ◌-◌}
 use Rattle.std.proofs.Common.{append-nil, ◌∙◌}
-use Rattle.es_tokens.specs.AreTokens.{Leads, AreLexed, FailsBehind}
+use Rattle.es_tokens.specs.AreTokens.{Leads, AreLexed}
+use Rattle.es_tokens.specs.IsFirstFault.{FailsBehind}
 use Rattle.es_tokens.proofs.LawLemmas.{leads-count}
 use Rattle.std.specs.Str.{chars, IsUtf8, is_utf8}
 use Rattle.std.specs.Str.Lossy.{utf8_valid_len}
@@ -11,9 +12,9 @@ use Rattle.std.proofs.lemmas.Str.{encodes-chars, length-le-encodes, is_utf8-from
 use Rattle.std.proofs.lemmas.Bool.{false_from_ne_true}
 use Rattle.es_tokens.specs.declared.token.TokenKind.TheVariants.{NotUtf8}
 use Rattle.es_tokens.specs.Answers.{and_more, answers_behind, answers_of}
-use Rattle.es_tokens.specs.Brackets.{role_in}
+use Rattle.es_tokens.specs.TokenRole.{role_in}
 use Rattle.es_tokens.specs.Context.{context_of, context_after}
-use Rattle.es_tokens.specs.Left.{left_by, left_of}
+use Rattle.es_tokens.specs.inner.Left.{left_by, left_of}
 use Rattle.es_tokens.specs.Step.{Next, ends, token, fails, step}
 use Rattle.es_tokens.proofs.StepLemmas.{step-shorter, context-step}
 use Rattle.es_tokens.specs.declared.context.Context.{Context}

@@ -1,13 +1,12 @@
 -- The relations and the computed answer are one.
-use Rattle.std.proofs.Common.{ℕ, zero, suc, ◌≡◌, ◌+◌, ◌-◌, ◌<◌, ◌≤◌, Bool, true, false, cond, List, [], ◌∷◌, ◌++◌, Option, None, Some, Result, Ok, Err, inl, inr, ◌↔◌, length, refl, sym, ap, ◌∙◌, arith}
-use Rattle.std.specs.Option.{option_or}
+use Rattle.std.proofs.Common.{ℕ, zero, suc, ◌≡◌, ◌+◌, ◌-◌, ◌<◌, ◌≤◌, Bool, true, false, cond, List, [], ◌∷◌, Result, Ok, Err, inl, inr, ◌↔◌, length, refl, sym, ap, ◌∙◌, arith}
 use Rattle.std.specs.Str.{chars, IsUtf8, is_utf8}
 use Rattle.std.specs.Str.Lossy.{utf8_valid_len}
 use Rattle.std.proofs.lemmas.Str.{is_utf8-from_IsUtf8, IsUtf8-from_is_utf8}
 use Rattle.std.proofs.lemmas.Bool.{false_from_ne_true}
-use Rattle.es_tokens.specs.AreTokens.{Leads, AreLexed, AreTokens, FailsBehind, IsFirstFault, IsLongest, LeavesLongest}
+use Rattle.es_tokens.specs.AreTokens.{Leads, AreLexed, AreTokens}
+use Rattle.es_tokens.specs.IsFirstFault.{FailsBehind, IsFirstFault}
 use Rattle.es_tokens.specs.Context.{context_of}
-use Rattle.es_tokens.specs.Longest.{after_longest}
 use Rattle.es_tokens.specs.Step.{Next, ends, token, fails, step}
 use Rattle.es_tokens.specs.Tokens.{follow, run, all_of, in_order, tokens_of}
 use Rattle.es_tokens.proofs.StepLemmas.{step-shorter}
@@ -108,46 +107,3 @@ fault-one text fault = (there, back)
 
     back : tokens_of text ≡ Err fault → IsFirstFault text fault
     back e = by_test (is_utf8 text) refl e
-
--- the longest front
-extended : (passes : List ℕ → Bool) (c : ℕ) (cs rest front : List ℕ) → IsLongest (λ more. passes (c ∷ more)) cs front rest → IsLongest passes (c ∷ cs) (c ∷ front) rest
-extended passes c cs rest front h = record {
-  parts = ap (λ more. c ∷ more) h.parts;
-  holds = h.holds;
-  longest = beyond;
-}
-  where
-    beyond : (more left : List ℕ) → c ∷ cs ≡ more ++ left → length (c ∷ front) < length more → passes more ≡ false
-    beyond [] left e longer = absurd (omega arith)
-    beyond (d ∷ more) left e longer = let same : c ≡ d = cc in let tails : cs ≡ more ++ left = cc in let more_is : length front < length more = omega arith in rw (sym same) (h.longest more left tails more_is)
-
-none-passes : (passes : List ℕ → Bool) (c : ℕ) (cs : List ℕ) → ((front left : List ℕ) → cs ≡ front ++ left → passes (c ∷ front) ≡ false) →
-    (front left : List ℕ) → c ∷ cs ≡ front ++ left → 0 < length front → passes front ≡ false
-none-passes passes c cs h [] left e longer = absurd (omega arith)
-none-passes passes c cs h (d ∷ front) left e longer = let same : c ≡ d = cc in let tails : cs ≡ front ++ left = cc in rw (sym same) (h front left tails)
-
-pub longest-leaves : (passes : List ℕ → Bool) (text : List ℕ) → LeavesLongest passes text (after_longest passes text)
-longest-leaves passes [] = at_end (passes []) refl
-  where
-    past : (more left : List ℕ) → [] ≡ more ++ left → 0 < length more → passes more ≡ false
-    past [] left e longer = absurd (omega arith)
-    past (c ∷ more) left e longer = cc
-
-    all : passes [] ≡ false → (front left : List ℕ) → [] ≡ front ++ left → passes front ≡ false
-    all n [] left e = n
-    all n (c ∷ front) left e = cc
-
-    at_end : (test : Bool) → passes [] ≡ test → LeavesLongest passes [] (cond test (Some []) None)
-    at_end true e = ([], record { parts = refl; holds = e; longest = past })
-    at_end false e = all e
-longest-leaves passes (c ∷ cs) = by_rest (after_longest (λ front. passes (c ∷ front)) cs) (longest-leaves (λ front. passes (c ∷ front)) cs) (passes []) refl
-  where
-    by_rest : (found : Option (List ℕ)) → LeavesLongest (λ front. passes (c ∷ front)) cs found → (test : Bool) → passes [] ≡ test →
-        LeavesLongest passes (c ∷ cs) (option_or found (cond test (Some (c ∷ cs)) None))
-    by_rest (Some rest) h test e = (c ∷ h.0, extended passes c cs rest h.0 h.1)
-    by_rest None h true e = ([], record { parts = refl; holds = e; longest = none-passes passes c cs h })
-    by_rest None h false e = none
-      where
-        none : (front left : List ℕ) → c ∷ cs ≡ front ++ left → passes front ≡ false
-        none [] left k = e
-        none (d ∷ front) left k = none-passes passes c cs h (d ∷ front) left k (omega arith)

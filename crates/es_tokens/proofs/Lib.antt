@@ -1,9 +1,17 @@
 pub mod AnswerLemmas
+pub mod BlankLemmas
+pub mod CountLemmas
+pub mod DepthLemmas
+pub mod FamilyLemmas
 pub mod LanguageLemmas
 pub mod LawLemmas
 pub mod Literals
 pub mod LongestLemmas
 pub mod MateLemmas
+pub mod PartLemmas
+pub mod QuotedLemmas
 pub mod ShapeLemmas
+pub mod SpanLemmas
 pub mod StepLemmas
+pub mod TextLemmas
 pub mod TokensLemmas

@@ -1,12 +1,12 @@
 -- Each opener gets its closer.
 use Rattle.std.proofs.Common.{ℕ, zero, suc, ◌≡◌, ◌<◌, ◌≤◌, Bool, true, false, cond, List, [], ◌∷◌, ◌++◌, Option, None, Some, ◌⊎◌, inl, inr, length, refl, sym, ap, ◌∙◌, arith}
 use Rattle.std.proofs.lemmas.Bool.{cases_eq}
-use Rattle.es_tokens.specs.Brackets.{role_in}
+use Rattle.es_tokens.specs.TokenRole.{role_in}
 use Rattle.es_tokens.specs.AreTokens.{Leads, AreTokens}
 use Rattle.es_tokens.specs.Context.{context_of, open_after}
 use Rattle.es_tokens.specs.Mates.{played, plays, HasMate, AreMates}
-use Rattle.es_tokens.specs.Step.{same_bracket, misplaced}
-use Rattle.es_tokens.specs.Tokens.{mate_by, whole, with_mate, mated}
+use Rattle.es_tokens.specs.Misplaced.{same_bracket, misplaced}
+use Rattle.es_tokens.specs.Mated.{mate_by, mated_token, with_mate, mated}
 use Rattle.es_tokens.proofs.StepLemmas.{context-step, step-in_place, step-closed}
 use Rattle.std.specs.Prelude.{drop}
 use Rattle.es_tokens.proofs.TokensLemmas.{length-mated, length-with_mate, with_mate-past}
@@ -21,25 +21,25 @@ use Rattle.es_tokens.specs.declared.role.Role.TheVariants.{Value, BlockWord, Con
 use Rattle.es_tokens.specs.declared.token.Token.{Token}
 use Rattle.es_tokens.specs.declared.token.LexToken.{LexToken}
 
-abbrev Roles : Type 0
+abbrev pub Roles : Type 0
 Roles = ℕ → Option (Role × ℕ)
 
 -- the open brackets, the innermost first, stand below a number and are their own mates so far
-abbrev Pending : Roles → ℕ → List Opened → Type 0
+abbrev pub Pending : Roles → ℕ → List Opened → Type 0
 Pending all number [] = Unit {0}
 Pending all number (opened ∷ outer) = (opened.at < number) × (all opened.at ≡ Some (Open opened.bracket, opened.at)) × Pending all opened.at outer
 
-abbrev IsOpen : List Opened → ℕ → Type 0
+abbrev pub IsOpen : List Opened → ℕ → Type 0
 IsOpen [] number = ⊥
 IsOpen (opened ∷ outer) number = (number ≡ opened.at) ⊎ IsOpen outer number
 
 -- so many tokens, of which each has its mate or is open
-record Pairing (all : Roles) (count : ℕ) (brackets : List Opened) : Type 0 where
-  beyond : (number : ℕ) → count ≤ number → all number ≡ None
-  pending : Pending all count brackets
-  rest : (number : ℕ) (role : Role) (mate : ℕ) → all number ≡ Some (role, mate) → HasMate all number role mate ⊎ IsOpen brackets number
+pub record Pairing (all : Roles) (count : ℕ) (brackets : List Opened) : Type 0 where
+  pub beyond : (number : ℕ) → count ≤ number → all number ≡ None
+  pub pending : Pending all count brackets
+  pub rest : (number : ℕ) (role : Role) (mate : ℕ) → all number ≡ Some (role, mate) → HasMate all number role mate ⊎ IsOpen brackets number
 
-entry-parts : (entry : Option (Role × ℕ)) (role r : Role) (mate m : ℕ) → entry ≡ Some (role, mate) → entry ≡ Some (r, m) → (role ≡ r) × (mate ≡ m)
+pub entry-parts : (entry : Option (Role × ℕ)) (role r : Role) (mate m : ℕ) → entry ≡ Some (role, mate) → entry ≡ Some (r, m) → (role ≡ r) × (mate ≡ m)
 entry-parts entry role r mate m e f =
     let pair : (role, mate) ≡ (r, m) = cc in (ap (λ (x : Role × ℕ). x.0) pair, ap (λ (x : Role × ℕ). x.1) pair)
 
@@ -69,9 +69,9 @@ pending-more all count most [] below h = tt
 pending-more all count most (opened ∷ outer) below h = (omega (arith, h.0), h.1, h.2)
 
 -- one more token, and no other is changed
-record Added (all more : Roles) (count : ℕ) (entry : Role × ℕ) : Type 0 where
-  same : (number : ℕ) → (number ≡ count → ⊥) → more number ≡ all number
-  new : more count ≡ Some entry
+pub record Added (all more : Roles) (count : ℕ) (entry : Role × ℕ) : Type 0 where
+  pub same : (number : ℕ) → (number ≡ count → ⊥) → more number ≡ all number
+  pub new : more count ≡ Some entry
 
 module _ (all more : Roles) (count : ℕ) (brackets : List Opened) (role : Role) (mate : ℕ) (p : Pairing all count brackets) (a : Added all more count (role, mate)) where
   added-beyond : (number : ℕ) → suc count ≤ number → more number ≡ None
@@ -105,10 +105,10 @@ module _ (all more : Roles) (count : ℕ) (brackets : List Opened) (role : Role)
       ]
 
 -- a closer, which its opener is told of
-record Closed (all more : Roles) (count opener : ℕ) (bracket : Bracket) : Type 0 where
-  same : (number : ℕ) → (number ≡ count → ⊥) → (number ≡ opener → ⊥) → more number ≡ all number
-  new : more count ≡ Some (Close bracket, opener)
-  told : more opener ≡ Some (Open bracket, count)
+pub record Closed (all more : Roles) (count opener : ℕ) (bracket : Bracket) : Type 0 where
+  pub same : (number : ℕ) → (number ≡ count → ⊥) → (number ≡ opener → ⊥) → more number ≡ all number
+  pub new : more count ≡ Some (Close bracket, opener)
+  pub told : more opener ≡ Some (Open bracket, count)
 
 module _ (all more : Roles) (count : ℕ) (opened : Opened) (outer : List Opened) (p : Pairing all count (opened ∷ outer)) (a : Closed all more count opened.at opened.bracket) where
   closed-pairing : Pairing more (suc count) outer
@@ -187,11 +187,11 @@ plays-added text [] last (suc number) n = refl
 plays-added text (first ∷ tokens) last zero n = refl
 plays-added text (first ∷ tokens) last (suc number) n = plays-added text tokens last number (λ e. n (ap suc e))
 
-played-whole : (text : List ℕ) (found : LexToken) (mate : ℕ) → played text (whole found mate) ≡ (role_in text found, mate)
+played-mated : (text : List ℕ) (found : LexToken) (mate : ℕ) → played text (mated_token found mate) ≡ (role_in text found, mate)
 unfolding role_in
-played-whole text found mate = refl
+played-mated text found mate = refl
 
-same-brackets : (one other : Bracket) → same_bracket one other ≡ true → one ≡ other
+pub same-brackets : (one other : Bracket) → same_bracket one other ≡ true → one ≡ other
 same-brackets Round Round e = refl
 same-brackets Square Square e = refl
 same-brackets Curly Curly e = refl
@@ -211,18 +211,18 @@ same-brackets Template Curly e = cc
 
 module _ (text : List ℕ) (tokens : List Token) (found : LexToken) (brackets : List Opened) (p : Pairing (plays text tokens) (length tokens) brackets) where
   -- a token that is its own mate so far
-  own-added : (role : Role) → role_in text found ≡ role →
-      Added (plays text tokens) (plays text (with_mate tokens (length tokens) (length tokens) ++ whole found (length tokens) ∷ [])) (length tokens) (role, length tokens)
+  pub own-added : (role : Role) → role_in text found ≡ role →
+      Added (plays text tokens) (plays text (with_mate tokens (length tokens) (length tokens) ++ mated_token found (length tokens) ∷ [])) (length tokens) (role, length tokens)
   own-added role e = rw (with_mate-past tokens (length tokens) (length tokens) (omega arith)) (record {
-    same = plays-added text tokens (whole found (length tokens));
-    new = plays-last text tokens (whole found (length tokens)) ∙ ap Some (played-whole text found (length tokens)) ∙ ap (λ (r : Role). Some (r, length tokens)) e;
+    same = plays-added text tokens (mated_token found (length tokens));
+    new = plays-last text tokens (mated_token found (length tokens)) ∙ ap Some (played-mated text found (length tokens)) ∙ ap (λ (r : Role). Some (r, length tokens)) e;
   })
 
   plain-pairing : (role : Role) → role_in text found ≡ role → ((all : Roles) → HasMate all (length tokens) role (length tokens)) →
-      Pairing (plays text (with_mate tokens (length tokens) (length tokens) ++ whole found (length tokens) ∷ [])) (suc (length tokens)) brackets
+      Pairing (plays text (with_mate tokens (length tokens) (length tokens) ++ mated_token found (length tokens) ∷ [])) (suc (length tokens)) brackets
   plain-pairing role e own =
       let all = plays text tokens in
-      let more = plays text (with_mate tokens (length tokens) (length tokens) ++ whole found (length tokens) ∷ []) in
+      let more = plays text (with_mate tokens (length tokens) (length tokens) ++ mated_token found (length tokens) ∷ []) in
       let added = own-added role e in
       record {
         beyond = added-beyond all more (length tokens) brackets role (length tokens) p added;
@@ -231,11 +231,11 @@ module _ (text : List ℕ) (tokens : List Token) (found : LexToken) (brackets : 
       }
 
   open-pairing : (bracket : Bracket) (value : Bool) → role_in text found ≡ Open bracket →
-      Pairing (plays text (with_mate tokens (length tokens) (length tokens) ++ whole found (length tokens) ∷ [])) (suc (length tokens))
+      Pairing (plays text (with_mate tokens (length tokens) (length tokens) ++ mated_token found (length tokens) ∷ [])) (suc (length tokens))
       (record { at = length tokens; bracket = bracket; value = value } ∷ brackets)
   open-pairing bracket value e =
       let all = plays text tokens in
-      let more = plays text (with_mate tokens (length tokens) (length tokens) ++ whole found (length tokens) ∷ []) in
+      let more = plays text (with_mate tokens (length tokens) (length tokens) ++ mated_token found (length tokens) ∷ []) in
       let added = own-added (Open bracket) e in
       record {
         beyond = added-beyond all more (length tokens) brackets (Open bracket) (length tokens) p added;
@@ -243,25 +243,31 @@ module _ (text : List ℕ) (tokens : List Token) (found : LexToken) (brackets : 
         rest = open-rest all more (length tokens) brackets (Open bracket) (length tokens) p added (record { at = length tokens; bracket = bracket; value = value }) refl;
       }
 
-close-pairing : (text : List ℕ) (tokens : List Token) (found : LexToken) (opened : Opened) (outer : List Opened) → Pairing (plays text tokens) (length tokens) (opened ∷ outer) →
-    role_in text found ≡ Close opened.bracket → Pairing (plays text (with_mate tokens opened.at (length tokens) ++ whole found opened.at ∷ [])) (suc (length tokens)) outer
-close-pairing text tokens found opened outer p e =
+pub closer-told : (text : List ℕ) (tokens : List Token) (found : LexToken) (opened : Opened) (outer : List Opened) → Pairing (plays text tokens) (length tokens) (opened ∷ outer) →
+    role_in text found ≡ Close opened.bracket →
+    Closed (plays text tokens) (plays text (with_mate tokens opened.at (length tokens) ++ mated_token found opened.at ∷ [])) (length tokens) opened.at opened.bracket
+closer-told text tokens found opened outer p e =
     let told = with_mate tokens opened.at (length tokens) in
-    let more = plays text (told ++ whole found opened.at ∷ []) in
     let long : length told ≡ length tokens = length-with_mate tokens opened.at (length tokens) in
-    closed-pairing (plays text tokens) more (length tokens) opened outer p (record {
-      same = λ number n k. plays-added text told (whole found opened.at) number (λ at. n (at ∙ long)) ∙ plays-other text tokens opened.at (length tokens) number k;
-      new = ap more (sym long) ∙ plays-last text told (whole found opened.at) ∙ ap Some (played-whole text found opened.at) ∙ ap (λ (r : Role). Some (r, opened.at)) e;
-      told = plays-before text told (whole found opened.at ∷ []) opened.at (omega (arith, p.pending.0)) ∙ plays-told text tokens opened.at (length tokens) opened.at (Open opened.bracket) p.pending.1;
-    })
+    record {
+      same = λ number n k. plays-added text told (mated_token found opened.at) number (λ at. n (at ∙ long)) ∙ plays-other text tokens opened.at (length tokens) number k;
+      new = ap (plays text (told ++ mated_token found opened.at ∷ [])) (sym long) ∙ plays-last text told (mated_token found opened.at) ∙ ap Some (played-mated text found opened.at) ∙ ap (λ (r : Role). Some (r, opened.at)) e;
+      told = plays-before text told (mated_token found opened.at ∷ []) opened.at (omega (arith, p.pending.0)) ∙ plays-told text tokens opened.at (length tokens) opened.at (Open opened.bracket) p.pending.1;
+    }
 
-fits : (test : Bool) (kind : TokenKind) → cond test None (Some kind) ≡ None → test ≡ true
+close-pairing : (text : List ℕ) (tokens : List Token) (found : LexToken) (opened : Opened) (outer : List Opened) → Pairing (plays text tokens) (length tokens) (opened ∷ outer) →
+    role_in text found ≡ Close opened.bracket → Pairing (plays text (with_mate tokens opened.at (length tokens) ++ mated_token found opened.at ∷ [])) (suc (length tokens)) outer
+close-pairing text tokens found opened outer p e =
+    closed-pairing (plays text tokens) (plays text (with_mate tokens opened.at (length tokens) ++ mated_token found opened.at ∷ [])) (length tokens) opened outer p
+    (closer-told text tokens found opened outer p e)
+
+pub fits : (test : Bool) (kind : TokenKind) → cond test None (Some kind) ≡ None → test ≡ true
 fits true kind e = refl
 fits false kind e = cc
 
-close-step : (text : List ℕ) (tokens : List Token) (found : LexToken) (bracket : Bracket) (brackets : List Opened) → Pairing (plays text tokens) (length tokens) brackets →
+pub close-step : (text : List ℕ) (tokens : List Token) (found : LexToken) (bracket : Bracket) (brackets : List Opened) → Pairing (plays text tokens) (length tokens) brackets →
     role_in text found ≡ Close bracket → misplaced 4096 brackets (Close bracket) ≡ None →
-    Pairing (plays text (with_mate tokens (mate_by (Close bracket) (length tokens) brackets) (length tokens) ++ whole found (mate_by (Close bracket) (length tokens) brackets) ∷ [])) (suc (length tokens)) (drop 1 brackets)
+    Pairing (plays text (with_mate tokens (mate_by (Close bracket) (length tokens) brackets) (length tokens) ++ mated_token found (mate_by (Close bracket) (length tokens) brackets) ∷ [])) (suc (length tokens)) (drop 1 brackets)
 close-step text tokens found bracket [] p e placed = cc
 close-step text tokens found bracket (opened ∷ outer) p e placed =
     let same = same-brackets bracket opened.bracket (fits (same_bracket bracket opened.bracket) Unmatched placed) in
@@ -269,7 +275,7 @@ close-step text tokens found bracket (opened ∷ outer) p e placed =
 
 pairing-step : (text : List ℕ) (tokens : List Token) (found : LexToken) (brackets : List Opened) (condition expression : Bool) (role : Role) →
     Pairing (plays text tokens) (length tokens) brackets → role_in text found ≡ role → misplaced 4096 brackets role ≡ None →
-    Pairing (plays text (with_mate tokens (mate_by role (length tokens) brackets) (length tokens) ++ whole found (mate_by role (length tokens) brackets) ∷ [])) (suc (length tokens))
+    Pairing (plays text (with_mate tokens (mate_by role (length tokens) brackets) (length tokens) ++ mated_token found (mate_by role (length tokens) brackets) ∷ [])) (suc (length tokens))
     (open_after role (length tokens) condition expression brackets)
 pairing-step text tokens found brackets condition expression (Open bracket) p e placed = open-pairing text tokens found brackets p bracket _ e
 pairing-step text tokens found brackets condition expression (Close bracket) p e placed = close-step text tokens found bracket brackets p e placed
@@ -283,7 +289,7 @@ pairing-step text tokens found brackets condition expression Dot p e placed = pl
 pairing-step text tokens found brackets condition expression Operator p e placed = plain-pairing text tokens found brackets p Operator e (λ all. refl)
 pairing-step text tokens found brackets condition expression Stop p e placed = plain-pairing text tokens found brackets p Stop e (λ all. refl)
 
-pairing : (text : List ℕ) (before : List LexToken) (rest : List ℕ) → Leads 4096 text before rest →
+pub pairing : (text : List ℕ) (before : List LexToken) (rest : List ℕ) → Leads 4096 text before rest →
     Pairing (plays text (mated text before)) (length (mated text before)) (context_of text before).brackets
 pairing text [] rest leads = record { beyond = λ number above. refl; pending = tt; rest = λ number role mate e. cc }
 pairing text (found ∷ before) rest leads =

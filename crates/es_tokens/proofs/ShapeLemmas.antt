@@ -4,7 +4,7 @@ use Rattle.std.proofs.lemmas.Bool.{and_right, ne_eqb}
 use Rattle.es_tokens.specs.Shape.{Shape, no_text, empty, any_text, one, seq, alt, many, other, char, followed, either, takes_empty, after_first}
 use Rattle.es_tokens.specs.declared.escape.Value.{Value}
 use Rattle.es_tokens.specs.declared.escape.Value.TheVariants.{Start, Zeros, One, Four, Three, Two, Last, Full, WideFour, WideThree, WideTwo, WideLast}
-use Rattle.es_tokens.specs.NameMachine.{value_rest, escape_rest}
+use Rattle.es_tokens.specs.inner.NameMachine.{value_rest, escape_rest}
 use Rattle.es_tokens.specs.NameShape.{name_rest}
 use Rattle.es_tokens.specs.declared.escape.Escape.{Escape}
 use Rattle.es_tokens.proofs.Literals.{is_hex-125}

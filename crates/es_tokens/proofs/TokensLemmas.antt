@@ -4,15 +4,17 @@ use Rattle.std.specs.Prelude.{nat_lt, Some, None, drop, cond}
 use Rattle.std.specs.Str.{IsUtf8}
 use Rattle.std.proofs.lemmas.Str.{encodes-chars, length-le-encodes}
 use Rattle.std.proofs.lemmas.Bool.{ltb-true}
-use Rattle.es_tokens.specs.Brackets.{role_in}
+use Rattle.es_tokens.specs.TokenRole.{role_in}
 use Rattle.es_tokens.specs.declared.context.Opened.{Opened}
 use Rattle.es_tokens.specs.declared.role.Role.{Role}
 use Rattle.es_tokens.specs.declared.role.Role.TheVariants.{Value, BlockWord, Control, For, Await, Word, Dot, Open, Close, Operator, Stop}
 use Rattle.es_tokens.specs.declared.token.TokenKind.{TokenKind}
 use Rattle.es_tokens.specs.declared.token.TokenKind.TheVariants.{Depth}
 use Rattle.es_tokens.specs.Context.{context_of, context_after, open_after}
-use Rattle.es_tokens.specs.Step.{misplaced, ends, token, fails, step}
-use Rattle.es_tokens.specs.Tokens.{run, all_of, mate_by, whole, with_mate, mated, in_order}
+use Rattle.es_tokens.specs.Misplaced.{misplaced}
+use Rattle.es_tokens.specs.Step.{ends, token, fails, step}
+use Rattle.es_tokens.specs.Tokens.{run, all_of, in_order}
+use Rattle.es_tokens.specs.Mated.{mate_by, mated_token, with_mate, mated}
 use Rattle.std.specs.Str.{chars}
 use Rattle.es_tokens.proofs.StepLemmas.{step-shorter, context-step}
 use Rattle.es_tokens.specs.declared.context.Context.{Context}
@@ -43,7 +45,7 @@ pub length-mated : (text : List ℕ) (before : List LexToken) → length (mated 
 length-mated text [] = refl
 length-mated text (found ∷ before) =
     let mate = mate_by (role_in text found) (length before) (context_of text before).brackets in
-    length-append (with_mate (mated text before) mate (length before)) (whole found mate ∷ [])
+    length-append (with_mate (mated text before) mate (length before)) (mated_token found mate ∷ [])
     ∙ rw (length-with_mate (mated text before) mate (length before), length-mated text before) (omega arith)
 
 run-token : (text : List ℕ) (steps : ℕ) (before : List LexToken) (rest : List ℕ) (found : LexToken) (left : List ℕ) →
@@ -56,7 +58,7 @@ pub reached-token : (text : List ℕ) (tokens : List Token) (context : Context) 
     Reached text tokens context rest → step 4096 text context rest ≡ token found left →
     Reached text
     (with_mate tokens (mate_by (role_in text found) (length tokens) context.brackets) (length tokens)
-    ++ whole found (mate_by (role_in text found) (length tokens) context.brackets) ∷ [])
+    ++ mated_token found (mate_by (role_in text found) (length tokens) context.brackets) ∷ [])
     (context_after context (role_in text found) (length tokens)) left
 reached-token text tokens context rest found left r e =
     let shorter = step-shorter 4096 text context rest found left e in
@@ -122,7 +124,7 @@ reached-number text tokens context rest utf8 r =
 pub reached-next : (text : List ℕ) (tokens more : List Token) (context next : Context) (rest left : List ℕ) (found : LexToken) (role : Role) (at mate : ℕ) →
     Reached text tokens context rest → step 4096 text context rest ≡ token found left → role ≡ role_in text found → at ≡ length tokens →
     mate ≡ mate_by role at context.brackets → next ≡ context_after context role at →
-    more ≡ with_mate tokens mate (length tokens) ++ whole found mate ∷ [] → Reached text more next left
+    more ≡ with_mate tokens mate (length tokens) ++ mated_token found mate ∷ [] → Reached text more next left
 reached-next text tokens more context next rest left found role at mate r e role_is at_is mate_is next_is more_is =
     rw (more_is, mate_is, next_is, role_is, at_is) (reached-token text tokens context rest found left r e)
 

@@ -1,5 +1,6 @@
 -- The characters that tokens and gaps are made of (ECMA-262 12.2, 12.3, 12.7; identifiers by XID_Start and XID_Continue).
-use Rattle.std.specs.Prelude.{ℕ, Bool, not, ◌||◌, ◌&&◌, ◌==◌, nat_le}
+use Rattle.std.specs.Prelude.{ℕ, Bool, not, ◌||◌, ◌&&◌, ◌==◌, List, nat_le}
+use Rattle.std.specs.List.{list_any}
 use Rattle.std.specs.Char.{is_ascii_digit, is_ascii_hexdigit}
 use Rattle.unicode_ident.specs.Ident.{is_xid_start, is_xid_continue}
 
@@ -12,6 +13,10 @@ is_white c =
 -- LF, CR, U+2028, U+2029
 unfoldable pub is_terminator : ℕ → Bool
 is_terminator c = c == 0x0a || c == 0x0d || c == 0x2028 || c == 0x2029
+
+-- a line terminator is among these
+abbrev pub holds_terminator : List ℕ → Bool
+holds_terminator cs = list_any is_terminator cs
 
 unfoldable pub is_blank : ℕ → Bool
 is_blank c = is_white c || is_terminator c

@@ -1,6 +1,8 @@
 -- What the tokens so far say of the next one.
 use Rattle.std.specs.Prelude.{ℕ, Bool, true, false, List, [], ◌∷◌, length, drop, map}
-use Rattle.es_tokens.specs.Brackets.{role_in, opens, is_dot, after_dot, for_by, after_for, condition_by, opens_condition, wants_value, opens_expression, value_by, encloses_value, division_by, is_division}
+use Rattle.es_tokens.specs.TokenRole.{role_in}
+use Rattle.es_tokens.specs.Brackets.{opens}
+use Rattle.es_tokens.specs.Division.{is_dot, after_dot, is_loop, after_for, precedes_condition, opens_condition, wants_value, opens_expression, bracket_holds_value, encloses_value, precedes_division, is_division}
 use Rattle.es_tokens.specs.declared.role.Bracket.{Bracket}
 use Rattle.es_tokens.specs.declared.role.Bracket.TheVariants.{Round}
 use Rattle.es_tokens.specs.declared.role.Role.{Role}
@@ -38,7 +40,7 @@ context_of text tokens = record {
 -- the brackets that a token leaves open
 abbrev pub open_after : Role → ℕ → Bool → Bool → List Opened → List Opened
 open_after (Open bracket) at condition expression outer =
-    record { at = at; bracket = bracket; value = value_by (Open bracket) condition expression } ∷ outer
+    record { at = at; bracket = bracket; value = bracket_holds_value (Open bracket) condition expression } ∷ outer
 open_after (Close bracket) at condition expression outer = drop 1 outer
 open_after _ at condition expression outer = outer
 
@@ -50,10 +52,10 @@ first_value (opened ∷ outer) = opened.value
 abbrev pub context_after : Context → Role → ℕ → Context
 context_after context role at = record {
   first = false;
-  division = division_by role context.dotted (first_value context.brackets);
+  division = precedes_division role context.dotted (first_value context.brackets);
   expression = wants_value role;
   dotted = is_dot role;
-  looped = for_by role context.dotted;
-  condition = condition_by role context.dotted context.looped;
+  looped = is_loop role context.dotted;
+  condition = precedes_condition role context.dotted context.looped;
   brackets = open_after role at context.condition context.expression context.brackets;
 }

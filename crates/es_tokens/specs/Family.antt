@@ -3,15 +3,14 @@ use Rattle.std.specs.Prelude.{ℕ, Bool, false, ◌==◌, ◌&&◌, ◌||◌, Li
 use Rattle.es_tokens.specs.Characters.{is_digit, is_name_start}
 use Rattle.es_tokens.specs.Shape.{Shape, no_text, char}
 use Rattle.es_tokens.specs.NameShape.{name, private_name}
-use Rattle.es_tokens.specs.NumberShape.{is_radix, decimal, radix}
-use Rattle.es_tokens.specs.QuotedShape.{quoted}
+use Rattle.es_tokens.specs.NumberShape.{is_radix_letter, decimal, non_decimal}
+use Rattle.es_tokens.specs.QuotedShape.{quote_char, quoted}
 use Rattle.es_tokens.specs.TemplateShape.{template_begun, template_resumed}
 use Rattle.es_tokens.specs.RegexShape.{regex}
-use Rattle.es_tokens.specs.MarkShape.{marks}
-use Rattle.es_tokens.specs.Roles.{keyword_role}
+use Rattle.es_tokens.specs.PunctuatorShape.{punctuators}
+use Rattle.es_tokens.specs.KeywordRole.{keyword_role}
 use Rattle.es_tokens.specs.declared.family.Family.{Family}
-use Rattle.es_tokens.specs.declared.family.Family.TheVariants.{Quoted, Begun, Resumed, Private, Comment, Mark, Question, Regex, Decimal, Radix, Name}
-use Rattle.es_tokens.specs.QuotedMachine.{mark_of}
+use Rattle.es_tokens.specs.declared.family.Family.TheVariants.{Quoted, Begun, Resumed, Private, Comment, Punctuator, Question, Regex, Decimal, NonDecimal, Name}
 use Rattle.es_tokens.specs.declared.quoted.Quote.TheVariants.{Single, Double}
 use Rattle.es_tokens.specs.declared.token.TokenClass.TheVariants as class
 use Rattle.es_tokens.specs.declared.token.TokenClass.{TokenClass}
@@ -27,9 +26,9 @@ abbrev pub starts_point : List ℕ → Bool
 starts_point [] = false
 starts_point (c ∷ cs) = c == 0x2e && starts_digit cs
 
-abbrev pub starts_radix : List ℕ → Bool
-starts_radix [] = false
-starts_radix (c ∷ cs) = is_radix c
+abbrev pub starts_radix_letter : List ℕ → Bool
+starts_radix_letter [] = false
+starts_radix_letter (c ∷ cs) = is_radix_letter c
 
 abbrev pub starts_star : List ℕ → Bool
 starts_star [] = false
@@ -37,17 +36,17 @@ starts_star (c ∷ cs) = c == 0x2a
 
 -- behind a gap a comment that begins is one that isn't ended
 abbrev pub slash_family : Bool → List ℕ → Family
-slash_family division more = if starts_star more then Comment else (if division then Mark else Regex)
+slash_family division more = if starts_star more then Comment else (if division then Punctuator else Regex)
 
 abbrev pub number_family : ℕ → List ℕ → Family
-number_family c more = if c == 0x30 && starts_radix more then Radix else Decimal
+number_family c more = if c == 0x30 && starts_radix_letter more then NonDecimal else Decimal
 
--- `?.` is no mark where a digit follows
+-- `?.` is no punctuator where a digit follows
 abbrev pub plain_family : ℕ → List ℕ → Family
 plain_family c more =
     if is_name_start c || c == 0x5c then Name
     else (if is_digit c || (c == 0x2e && starts_digit more) then number_family c more
-    else (if c == 0x3f && starts_point more then Question else Mark))
+    else (if c == 0x3f && starts_point more then Question else Punctuator))
 
 -- by the first character and those behind it; resumes: a `}` goes on with a template
 abbrev pub family_of : Bool → Bool → ℕ → List ℕ → Family
@@ -61,16 +60,16 @@ family_of division resumes c more =
     else plain_family c more)))))
 
 abbrev pub shape_of : Family → Shape
-shape_of (Quoted quote) = quoted (mark_of quote)
+shape_of (Quoted quote) = quoted (quote_char quote)
 shape_of Begun = template_begun
 shape_of Resumed = template_resumed
 shape_of Private = private_name
 shape_of Comment = no_text
-shape_of Mark = marks
+shape_of Punctuator = punctuators
 shape_of Question = char 0x3f
 shape_of Regex = regex
 shape_of Decimal = decimal
-shape_of Radix = radix
+shape_of NonDecimal = non_decimal
 shape_of Name = name
 
 -- what it is that no text of the shape stands there
@@ -81,10 +80,10 @@ fault_of Resumed = Unfinished
 fault_of Comment = Unfinished
 fault_of Regex = Unfinished
 fault_of Private = Stray
-fault_of Mark = Stray
+fault_of Punctuator = Stray
 fault_of Question = Stray
 fault_of Decimal = Stray
-fault_of Radix = Stray
+fault_of NonDecimal = Stray
 fault_of Name = Stray
 
 -- a part of a template that ends with a backquote is the last
@@ -98,9 +97,9 @@ class_of Begun text = if ends_template text then class.Template else class.Head
 class_of Resumed text = if ends_template text then class.Tail else class.Middle
 class_of Private text = class.PrivateName
 class_of Comment text = class.Punct
-class_of Mark text = class.Punct
+class_of Punctuator text = class.Punct
 class_of Question text = class.Punct
 class_of Regex text = class.Regex
 class_of Decimal text = class.Number
-class_of Radix text = class.Number
+class_of NonDecimal text = class.Number
 class_of Name text = if is_some (keyword_role text) then class.Keyword else class.Name

@@ -8,8 +8,8 @@ abbrev pub line_comment : Shape
 line_comment = seq (char 0x2f) (seq (char 0x2f) (many line_char))
 
 -- the same with the line's terminator
-abbrev pub comment_line : Shape
-comment_line = seq (char 0x2f) (seq (char 0x2f) (seq (many line_char) (one is_terminator)))
+abbrev pub ended_line_comment : Shape
+ended_line_comment = seq (char 0x2f) (seq (char 0x2f) (seq (many line_char) (one is_terminator)))
 
 abbrev pub comment_end : Shape
 comment_end = seq (char 0x2a) (char 0x2f)
@@ -22,7 +22,7 @@ abbrev pub block_comment : Shape
 block_comment = seq (char 0x2f) (seq (char 0x2a) (seq (other holds_end) comment_end))
 
 abbrev pub gap_part : Shape
-gap_part = alt (one is_blank) (alt comment_line block_comment)
+gap_part = alt (one is_blank) (alt ended_line_comment block_comment)
 
 -- a last line may have no terminator
 abbrev pub gap_end : Shape

@@ -1,7 +1,7 @@
 -- Brackets and their mates (this project).
 use Rattle.std.specs.Prelude.{ℕ, ◌≡◌, ◌<◌, List, Option, Some, slice_get, slice_range}
 use Rattle.std.specs.Option.{option_map}
-use Rattle.es_tokens.specs.Brackets.{role_of}
+use Rattle.es_tokens.specs.TokenRole.{role_of}
 use Rattle.es_tokens.specs.declared.role.Role.{Role}
 use Rattle.es_tokens.specs.declared.role.Role.TheVariants.{Open, Close}
 use Rattle.es_tokens.specs.declared.token.Token.{Token}

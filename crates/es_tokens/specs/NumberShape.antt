@@ -15,9 +15,9 @@ abbrev pub decimal : Shape
 decimal = seq (alt (one is_digit) (seq (char 0x2e) (one is_digit))) number_rest
 
 -- `b`, `o` or `x`, in either case
-abbrev pub is_radix : ℕ → Bool
-is_radix c = c == 0x78 || c == 0x58 || c == 0x62 || c == 0x42 || c == 0x6f || c == 0x4f
+abbrev pub is_radix_letter : ℕ → Bool
+is_radix_letter c = c == 0x78 || c == 0x58 || c == 0x62 || c == 0x42 || c == 0x6f || c == 0x4f
 
 -- a number in hexadecimal, binary or octal digits has no exponent
-abbrev pub radix : Shape
-radix = seq (char 0x30) (many (one is_number_part))
+abbrev pub non_decimal : Shape
+non_decimal = seq (char 0x30) (many (one is_number_part))

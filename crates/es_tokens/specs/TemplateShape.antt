@@ -7,15 +7,15 @@ use Rattle.es_tokens.specs.Shape.{Shape, one, seq, alt, many, char}
 abbrev pub dollars : Shape
 dollars = many (char 0x24)
 
-abbrev pub taken_char : Shape
-taken_char = seq (char 0x5c) any_char
+abbrev pub template_escape : Shape
+template_escape = seq (char 0x5c) any_char
 
 -- what keeps a `$` from being that of `${`
 abbrev pub after_dollars : Shape
-after_dollars = alt (one (λ c. is_template_char c && not (c == 0x7b))) taken_char
+after_dollars = alt (one (λ c. is_template_char c && not (c == 0x7b))) template_escape
 
 abbrev pub template_part : Shape
-template_part = alt (alt (one is_template_char) taken_char) (seq (seq (char 0x24) dollars) after_dollars)
+template_part = alt (alt (one is_template_char) template_escape) (seq (seq (char 0x24) dollars) after_dollars)
 
 -- a backquote or `${`, and the `$`s before it
 abbrev pub template_end : Shape

@@ -1,13 +1,10 @@
 -- The tokens of a text: each is the step's answer on the tokens before it (this project).
-use Rattle.std.specs.Prelude.{ℕ, suc, zero, ◌≡◌, List, [], ◌∷◌, ◌++◌, length, Result, Ok, Err, if◌then◌else◌}
+use Rattle.std.specs.Prelude.{ℕ, suc, zero, ◌≡◌, List, [], ◌∷◌, length, Result, Ok, Err, if◌then◌else◌}
 use Rattle.std.specs.Str.{chars, is_utf8}
 use Rattle.std.specs.Str.Lossy.{utf8_valid_len}
 use Rattle.es_tokens.specs.Context.{context_of}
 use Rattle.es_tokens.specs.Step.{Next, ends, token, fails, step}
-use Rattle.es_tokens.specs.Brackets.{role_in}
-use Rattle.es_tokens.specs.declared.role.Role.{Role}
-use Rattle.es_tokens.specs.declared.role.Role.TheVariants.{Close}
-use Rattle.es_tokens.specs.declared.context.Opened.{Opened}
+use Rattle.es_tokens.specs.Mated.{mated}
 use Rattle.es_tokens.specs.declared.token.Token.{Token}
 use Rattle.es_tokens.specs.declared.token.LexToken.{LexToken}
 use Rattle.es_tokens.specs.declared.token.TokenFault.{TokenFault}
@@ -30,28 +27,6 @@ run most text (suc steps) before rest =
 -- a step takes a character at least
 unfoldable pub all_of : ℕ → List ℕ → Result (List LexToken) TokenFault
 all_of most text = run most text (suc (length (chars text))) [] (chars text)
-
--- the number of a closer's opener, and of any other token its own
-abbrev pub mate_by : Role → ℕ → List Opened → ℕ
-mate_by (Close bracket) at [] = at
-mate_by (Close bracket) at (opened ∷ outer) = opened.at
-mate_by _ at brackets = at
-
-abbrev pub whole : LexToken → ℕ → Token
-whole found mate = record { class = found.class; span = found.span; new_line = found.new_line; depth = found.depth; mate = mate }
-
--- the token of this number gets this mate, where it is there
-abbrev pub with_mate : List Token → ℕ → ℕ → List Token
-with_mate [] number mate = []
-with_mate (first ∷ tokens) zero mate = record first { mate = mate } ∷ tokens
-with_mate (first ∷ tokens) (suc number) mate = first ∷ with_mate tokens number mate
-
--- tokens in the order of the text, each with its mate so far: an opener's is itself until its closer comes
-abbrev pub mated : List ℕ → List LexToken → List Token
-mated text [] = []
-mated text (found ∷ before) =
-    let mate = mate_by (role_in text found) (length before) (context_of text before).brackets in
-    with_mate (mated text before) mate (length before) ++ whole found mate ∷ []
 
 abbrev pub in_order : List ℕ → Result (List LexToken) TokenFault → Result (List Token) TokenFault
 in_order text (Ok found) = Ok (mated text found)

@@ -1,6 +1,6 @@
 ghost use Rattle.std.specs.Prelude.{◌≡◌};
 ghost use Rattle.es_tokens.specs.Context.{first_value};
-ghost use Rattle.es_tokens.specs.Tokens.{mate_by};
+ghost use Rattle.es_tokens.specs.Mated.{mate_by};
 
 use crate::role::{Bracket, Role};
 use crate::table;
@@ -63,7 +63,7 @@ impl Stack {
     {
         match role {
             Role::Open(bracket) => {
-                let value = table::encloses_value(bracket, condition, expression);
+                let value = table::bracket_holds_value(bracket, condition, expression);
                 self.push(Opened { at, bracket, value });
             }
             Role::Close(_) => self.pop(),
@@ -135,7 +135,7 @@ fn mate(role: Role, at: u32, brackets: &Stack) -> u32
 impl Context {
     ghost use Rattle.std.specs.Prelude.{◌≡◌, ◌≤◌, IfOk, [], length};
     ghost use Rattle.es_tokens.specs.Context.{context_of, context_after, open_after};
-    ghost use Rattle.es_tokens.specs.Tokens.{mate_by};
+    ghost use Rattle.es_tokens.specs.Mated.{mate_by};
 
     /// At the start of a text.
     pub(crate) fn new(alloc: Global) -> Result<Context, NoMemory>
@@ -163,9 +163,9 @@ impl Context {
         self.brackets
             .pass(role, at, self.condition, self.expression);
         self.first = false;
-        self.division = table::is_division(role, self.dotted, enclosed);
+        self.division = table::precedes_division(role, self.dotted, enclosed);
         self.expression = table::wants_value(role);
-        self.condition = table::opens_condition(role, self.dotted, self.looped);
+        self.condition = table::precedes_condition(role, self.dotted, self.looped);
         self.looped = table::is_loop(role, self.dotted);
         self.dotted = table::is_dot(role);
         mate

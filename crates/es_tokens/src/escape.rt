@@ -1,4 +1,4 @@
-ghost use Rattle.es_tokens.specs.NameMachine.{value_rest, escape_rest};
+ghost use Rattle.es_tokens.specs.inner.NameMachine.{value_rest, escape_rest};
 
 use crate::character::is_hex;
 use crate::machine::Machine;

@@ -1,17 +1,17 @@
 ghost use Rattle.std.specs.Prelude.{◌≡◌, ◌≤◌, ◌∷◌, IfSome, length};
 ghost use Rattle.std.specs.Option.{option_map};
 ghost use Rattle.std.specs.Str.{chars};
-ghost use Rattle.es_tokens.specs.NumberShape.{is_radix};
+ghost use Rattle.es_tokens.specs.NumberShape.{is_radix_letter};
 ghost use Rattle.es_tokens.specs.Longest.{after_longest};
 ghost use Rattle.es_tokens.specs.Shape.{has_shape};
-ghost use Rattle.es_tokens.specs.Family.{starts_digit, starts_point, starts_radix, starts_star, slash_family, number_family, plain_family, family_of, shape_of, fault_of};
+ghost use Rattle.es_tokens.specs.Family.{starts_digit, starts_point, starts_radix_letter, starts_star, slash_family, number_family, plain_family, family_of, shape_of, fault_of};
 
 use crate::character::{is_digit, is_name_start};
 use crate::cursor::split_first;
 use crate::machine::after_longest;
-use crate::mark::Mark;
 use crate::name::Name;
 use crate::number::Number;
+use crate::punctuator::Punctuator;
 use crate::quoted::{Quote, Quoted};
 use crate::regex::Regex;
 use crate::template::Template;
@@ -28,17 +28,17 @@ pub(crate) enum Family {
     Private,
     /// A comment that isn't ended.
     Comment,
-    Mark,
+    Punctuator,
     /// A `?` before a number that begins with `.`
     Question,
     Regex,
     Decimal,
-    Radix,
+    NonDecimal,
     Name,
 }
 
-fn is_radix(c: char) -> bool
-    ensures { result ≡ is_radix c }
+fn is_radix_letter(c: char) -> bool
+    ensures { result ≡ is_radix_letter c }
 {
     c == 'x' || c == 'X' || c == 'b' || c == 'B' || c == 'o' || c == 'O'
 }
@@ -61,11 +61,11 @@ fn starts_point(text: &str) -> bool
     }
 }
 
-fn starts_radix(text: &str) -> bool
-    ensures { result ≡ starts_radix (chars text.now) }
+fn starts_radix_letter(text: &str) -> bool
+    ensures { result ≡ starts_radix_letter (chars text.now) }
 {
     match split_first(text) {
-        Some((c, _)) => is_radix(c),
+        Some((c, _)) => is_radix_letter(c),
         None => false,
     }
 }
@@ -85,7 +85,7 @@ fn slash_family(division: bool, more: &str) -> Family
     if starts_star(more) {
         Family::Comment
     } else if division {
-        Family::Mark
+        Family::Punctuator
     } else {
         Family::Regex
     }
@@ -94,8 +94,8 @@ fn slash_family(division: bool, more: &str) -> Family
 fn number_family(c: char, more: &str) -> Family
     ensures { result ≡ number_family c (chars more.now) }
 {
-    if c == '0' && starts_radix(more) {
-        Family::Radix
+    if c == '0' && starts_radix_letter(more) {
+        Family::NonDecimal
     } else {
         Family::Decimal
     }
@@ -111,7 +111,7 @@ fn plain_family(c: char, more: &str) -> Family
     } else if c == '?' && starts_point(more) {
         Family::Question
     } else {
-        Family::Mark
+        Family::Punctuator
     }
 }
 
@@ -163,11 +163,11 @@ impl Family {
             Family::Resumed => after_longest(Template::Resumed, text),
             Family::Private => after_longest(Name::Private, text),
             Family::Comment => None,
-            Family::Mark => after_longest(Mark::Start, text),
-            Family::Question => after_longest(Mark::Only, text),
+            Family::Punctuator => after_longest(Punctuator::Start, text),
+            Family::Question => after_longest(Punctuator::Only, text),
             Family::Regex => after_longest(Regex::Open, text),
             Family::Decimal => after_longest(Number::Decimal, text),
-            Family::Radix => after_longest(Number::Radix, text),
+            Family::NonDecimal => after_longest(Number::NonDecimal, text),
             Family::Name => after_longest(Name::First, text),
         }
     }

@@ -1,4 +1,4 @@
-ghost use Rattle.es_tokens.specs.GapMachine.{gap_left};
+ghost use Rattle.es_tokens.specs.inner.GapMachine.{gap_left};
 
 use crate::character::{is_blank, is_terminator};
 use crate::machine::Machine;

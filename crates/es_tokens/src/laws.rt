@@ -1,14 +1,25 @@
 //! What holds of the definitions: calls that do nothing and whose clauses are the laws.
-ghost use Rattle.std.specs.Prelude.{◌≡◌, ◌↔◌, ◌∷◌, ◌++◌, [], ℕ, List, Bool, true, Ok, Err, map, reverse};
+ghost use Rattle.std.specs.Prelude.{◌≡◌, ◌≤◌, ◌↔◌, ◌==◌, ◌&&◌, ◌||◌, ◌∷◌, ◌++◌, [], ℕ, List, Bool, true, not, Ok, Err, length, map, reverse};
+ghost use Rattle.std.specs.Char.{is_whitespace};
+ghost use Rattle.std.specs.List.{AllByRecursion};
+ghost use Rattle.std.specs.Str.{IsUtf8};
 ghost use Rattle.es_tokens.specs.Longest.{after_longest};
 ghost use Rattle.es_tokens.specs.Answers.{answers_of};
-ghost use Rattle.es_tokens.specs.AreTokens.{AreTokens, AreLexed, FailsBehind, IsFirstFault, LeavesLongest};
+ghost use Rattle.es_tokens.specs.AreTokens.{AreTokens, AreLexed};
+ghost use Rattle.es_tokens.specs.Characters.{is_blank};
+ghost use Rattle.es_tokens.specs.ClassShape.{IsLongestOfClass};
+ghost use Rattle.es_tokens.specs.Depths.{AreNested, DepthsCountOpen};
+ghost use Rattle.es_tokens.specs.IsFirstFault.{FailsBehind, IsFirstFault};
+ghost use Rattle.es_tokens.specs.IsLongest.{LeavesLongest};
 ghost use Rattle.es_tokens.specs.Language.{HasShape};
 ghost use Rattle.es_tokens.specs.Mates.{AreMates};
 ghost use Rattle.es_tokens.specs.Shape.{Shape, has_shape};
+ghost use Rattle.es_tokens.specs.Spans.{AreInOrder, GapsBetween, NewLinesByGaps};
+ghost use Rattle.es_tokens.specs.TokenText.{IsQuoted, token_bytes};
 ghost use Rattle.es_tokens.specs.Tokens.{tokens_of};
 ghost use Rattle.es_tokens.specs.declared.token.LexToken.{LexToken};
 ghost use Rattle.es_tokens.specs.declared.token.Token.{Token};
+ghost use Rattle.es_tokens.specs.declared.token.TokenClass.TheVariants.{Str};
 ghost use Rattle.es_tokens.specs.declared.token.TokenFault.{TokenFault};
 
 /// A text has one list of tokens or one first fault, and never both.
@@ -25,6 +36,56 @@ pub fn answers_are_the_tokens()
         → AreLexed most text found → answers_of most text ≡ map Ok (reverse found) }
     ensures fault { (most : ℕ) (text : List ℕ) (fault : TokenFault) (fails : FailsBehind most text fault)
         → answers_of most text ≡ map Ok (reverse fails.found) ++ Err fault ∷ [] }
+{}
+
+/// No span is empty, the spans lie in order and in the text, and there are no more than the text has bytes.
+pub fn spans_lie_in_order()
+    ensures order { (text : List ℕ) (tokens : List Token)
+        → AreTokens text tokens → AreInOrder text tokens }
+    ensures count { (text : List ℕ) (tokens : List Token)
+        → AreTokens text tokens → length tokens ≤ length text }
+{}
+
+/// Outside the spans there is only white space, line terminators and comments.
+pub fn only_gaps_stand_between()
+    ensures { (text : List ℕ) (tokens : List Token)
+        → AreTokens text tokens → GapsBetween text tokens }
+{}
+
+/// A token is on a new line exactly where a line terminator stands in the gap before it.
+pub fn new_lines_are_those_of_gaps()
+    ensures { (text : List ℕ) (tokens : List Token)
+        → AreTokens text tokens → NewLinesByGaps text tokens }
+{}
+
+/// Each token is the longest of its class at its place.
+pub fn each_token_is_the_longest()
+    ensures { (text : List ℕ) (tokens : List Token)
+        → AreTokens text tokens → AllByRecursion (IsLongestOfClass text) tokens }
+{}
+
+/// A token's bytes are UTF-8, and those of a string are a quote, inner bytes and the same quote.
+pub fn token_bytes_are_text()
+    ensures utf8 { (text : List ℕ) (tokens : List Token)
+        → AreTokens text tokens → AllByRecursion (λ token. IsUtf8 (token_bytes text token)) tokens }
+    ensures string { (text : List ℕ) (tokens : List Token)
+        → AreTokens text tokens → AllByRecursion (λ token. token.class ≡ Str → IsQuoted (token_bytes text token)) tokens }
+{}
+
+/// A token's depth is how many brackets are opened before it and not closed before it.
+pub fn depths_count_open_brackets()
+    ensures { (text : List ℕ) (tokens : List Token)
+        → AreTokens text tokens → DepthsCountOpen text tokens }
+{}
+
+/// What a bracket and its mate enclose is deeper, and pairs nest.
+pub fn brackets_nest()
+    ensures { (text : List ℕ) (tokens : List Token) → AreTokens text tokens → AreNested tokens }
+{}
+
+/// White space and line terminators together are Unicode's `White_Space`, without U+0085 and with U+FEFF.
+pub fn blanks_are_those_of_unicode()
+    ensures { (c : ℕ) → is_blank c ≡ ((is_whitespace c && not (c == 0x85)) || c == 0xfeff) }
 {}
 
 /// Each bracket has its mate, and any other token is its own.

@@ -23,7 +23,7 @@ impl<'a> Model for Lexer<'a> {
     ghost use Rattle.std.specs.Prelude.{List, Result};
     ghost use Rattle.es_tokens.specs.declared.token.LexToken.{LexToken};
     ghost use Rattle.es_tokens.specs.declared.token.TokenFault.{TokenFault};
-    ghost use Rattle.es_tokens.specs.Left.{left_ahead, left_of, IsWithin};
+    ghost use Rattle.es_tokens.specs.inner.Left.{left_ahead, left_of, IsWithin};
 
     ghost Value = { List (Result LexToken TokenFault) };
 
@@ -36,7 +36,7 @@ impl<'a> Lexer<'a> {
     ghost use Rattle.std.specs.Prelude.{◌≡◌, ◌^◌, ◌≤◌, ◌∷◌, [], length, IfOk, MatchOption};
     ghost use Rattle.es_tokens.specs.Answers.{answers_of};
     ghost use Rattle.es_tokens.specs.Context.{context_of};
-    ghost use Rattle.es_tokens.specs.Left.{left_ahead, left_of};
+    ghost use Rattle.es_tokens.specs.inner.Left.{left_ahead, left_of};
 
     /// Takes all the memory that the lexer needs.
     pub fn new(alloc: Global, text: &'a [u8], most_depth: u16) -> Result<Lexer<'a>, NoMemory>

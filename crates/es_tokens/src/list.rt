@@ -1,5 +1,6 @@
 ghost use Rattle.std.specs.Prelude.{◌≡◌, ◌^◌, ◌≤◌, ◌++◌, ◌∷◌, [], length, Ok, MatchResult, OnOk, OnErr};
-ghost use Rattle.es_tokens.specs.Tokens.{whole, with_mate, all_of, in_order, tokens_of, EndsBy};
+ghost use Rattle.es_tokens.specs.Mated.{mated_token, with_mate};
+ghost use Rattle.es_tokens.specs.Tokens.{all_of, in_order, tokens_of, EndsBy};
 
 use crate::context::Context;
 use crate::step::{Next, step};
@@ -15,7 +16,7 @@ const MOST_DEPTH: u16 = 4096;
 fn add(tokens: &mut Vec<Token>, found: LexToken, mate: u32) -> Result<(), NoMemory>
     requires { length tokens.old.items ≤ 2 ^ 30 }
     ensures { OnOk result (tokens.new.items
-        ≡ with_mate tokens.old.items mate (length tokens.old.items) ++ whole found mate ∷ []) }
+        ≡ with_mate tokens.old.items mate (length tokens.old.items) ++ mated_token found mate ∷ []) }
 {
     let number = tokens.len() as u32;
     tokens.push(Token {

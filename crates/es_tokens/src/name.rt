@@ -1,7 +1,7 @@
 ghost use Rattle.std.specs.Prelude.{◌≡◌, MatchOption};
 ghost use Rattle.es_tokens.specs.Shape.{no_text, after_first};
 ghost use Rattle.es_tokens.specs.NameShape.{name_rest};
-ghost use Rattle.es_tokens.specs.NameMachine.{name_left};
+ghost use Rattle.es_tokens.specs.inner.NameMachine.{name_left};
 
 use crate::character::{is_name_part, is_name_start};
 use crate::escape::Escape;

@@ -1,7 +1,7 @@
 ghost use Rattle.std.specs.Prelude.{◌≡◌, MatchOption};
 ghost use Rattle.es_tokens.specs.Shape.{no_text, after_first};
 ghost use Rattle.es_tokens.specs.NumberShape.{number_rest};
-ghost use Rattle.es_tokens.specs.NumberMachine.{number_left};
+ghost use Rattle.es_tokens.specs.inner.NumberMachine.{number_left};
 
 use crate::character::{is_digit, is_number_part};
 use crate::machine::Machine;
@@ -15,7 +15,7 @@ pub(crate) enum Number {
     Rest,
     /// Behind an `e`, which a sign may follow.
     Exponent,
-    Radix,
+    NonDecimal,
     Digits,
 }
 
@@ -50,7 +50,7 @@ impl Machine for Number {
                 '+' | '-' => Some(Number::Rest),
                 _ => after_digit(c),
             },
-            Number::Radix => match c {
+            Number::NonDecimal => match c {
                 '0' => Some(Number::Digits),
                 _ => None,
             },

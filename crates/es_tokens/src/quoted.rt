@@ -1,6 +1,7 @@
 ghost use Rattle.std.specs.Prelude.{◌≡◌, MatchOption};
 ghost use Rattle.es_tokens.specs.Shape.{no_text, after_first};
-ghost use Rattle.es_tokens.specs.QuotedMachine.{mark_of, quoted_left};
+ghost use Rattle.es_tokens.specs.QuotedShape.{quote_char};
+ghost use Rattle.es_tokens.specs.inner.QuotedMachine.{quoted_left};
 
 use crate::character::is_string_char;
 use crate::machine::Machine;
@@ -17,17 +18,17 @@ pub(crate) enum Quoted {
     Open(Quote),
     Body(Quote),
     /// Behind a backslash.
-    Taken(Quote),
+    Backslash(Quote),
     /// Behind a backslash and CR, which LF may follow.
     Return(Quote),
     Closed,
 }
 
 impl Quote {
-    ghost use Rattle.es_tokens.specs.QuotedMachine.{mark_of};
+    ghost use Rattle.es_tokens.specs.QuotedShape.{quote_char};
 
-    fn mark(self) -> char
-        ensures { result ≡ mark_of self }
+    fn character(self) -> char
+        ensures { result ≡ quote_char self }
     {
         match self {
             Quote::Single => '\'',
@@ -41,11 +42,11 @@ fn in_body(quote: Quote, c: char) -> Option<Quoted>
     ensures { MatchOption result (after_first (quoted_left (Quoted.Body quote)) c ≡ no_text)
         (λ next. after_first (quoted_left (Quoted.Body quote)) c ≡ quoted_left next) }
 {
-    if c == quote.mark() {
+    if c == quote.character() {
         return Some(Quoted::Closed);
     }
     match c {
-        '\\' => Some(Quoted::Taken(quote)),
+        '\\' => Some(Quoted::Backslash(quote)),
         _ => is_string_char(c).then_some(Quoted::Body(quote)),
     }
 }
@@ -60,9 +61,9 @@ impl Machine for Quoted {
     #[tactic(auto, using(crate::proofs::Literals::literals))]
     fn step(self, c: char) -> Option<Quoted> {
         match self {
-            Quoted::Open(quote) => (c == quote.mark()).then_some(Quoted::Body(quote)),
+            Quoted::Open(quote) => (c == quote.character()).then_some(Quoted::Body(quote)),
             Quoted::Body(quote) => in_body(quote, c),
-            Quoted::Taken(quote) => match c {
+            Quoted::Backslash(quote) => match c {
                 '\r' => Some(Quoted::Return(quote)),
                 _ => Some(Quoted::Body(quote)),
             },

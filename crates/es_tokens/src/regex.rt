@@ -1,4 +1,4 @@
-ghost use Rattle.es_tokens.specs.RegexMachine.{regex_left};
+ghost use Rattle.es_tokens.specs.inner.RegexMachine.{regex_left};
 
 use crate::character::{is_class_char, is_flag, is_regex_char, is_terminator};
 use crate::machine::Machine;
@@ -9,9 +9,9 @@ pub(crate) enum Regex {
     Open,
     First,
     Body,
-    Escaped,
+    Backslash,
     Class,
-    ClassEscaped,
+    ClassBackslash,
     Flags,
 }
 
@@ -31,23 +31,23 @@ impl Machine for Regex {
             },
             Regex::First => match c {
                 '*' => None,
-                '\\' => Some(Regex::Escaped),
+                '\\' => Some(Regex::Backslash),
                 '[' => Some(Regex::Class),
                 _ => is_regex_char(c).then_some(Regex::Body),
             },
             Regex::Body => match c {
                 '/' => Some(Regex::Flags),
-                '\\' => Some(Regex::Escaped),
+                '\\' => Some(Regex::Backslash),
                 '[' => Some(Regex::Class),
                 _ => is_regex_char(c).then_some(Regex::Body),
             },
-            Regex::Escaped => (!is_terminator(c)).then_some(Regex::Body),
+            Regex::Backslash => (!is_terminator(c)).then_some(Regex::Body),
             Regex::Class => match c {
                 ']' => Some(Regex::Body),
-                '\\' => Some(Regex::ClassEscaped),
+                '\\' => Some(Regex::ClassBackslash),
                 _ => is_class_char(c).then_some(Regex::Class),
             },
-            Regex::ClassEscaped => (!is_terminator(c)).then_some(Regex::Class),
+            Regex::ClassBackslash => (!is_terminator(c)).then_some(Regex::Class),
             Regex::Flags => is_flag(c).then_some(Regex::Flags),
         }
     }

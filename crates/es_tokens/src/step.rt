@@ -1,18 +1,23 @@
 ghost use Rattle.std.specs.Prelude.{◌≡◌, ◌+◌, ◌^◌, ◌≤◌, ◌==◌, if◌then◌else◌, length};
 ghost use Rattle.std.specs.Str.{chars};
+ghost use Rattle.es_tokens.specs.Characters.{holds_terminator};
 ghost use Rattle.es_tokens.specs.Family.{shape_of, class_of, ends_template};
-ghost use Rattle.es_tokens.specs.Brackets.{role_of, role_in};
+ghost use Rattle.es_tokens.specs.TokenRole.{role_of, role_in};
 ghost use Rattle.es_tokens.specs.Shape.{has_shape};
 ghost use Rattle.es_tokens.specs.Longest.{after_longest};
-ghost use Rattle.es_tokens.specs.Step.{after_gap, place, starts_separator, holds_terminator, same_bracket, closes, misplaced, ends, fail_at, token_at, token_step, step};
-ghost use Rattle.es_tokens.specs.StepShown.{IsNext};
+ghost use Rattle.es_tokens.specs.Step.{after_gap, place, passed, ends, fail_at, token_at, token_step, step};
+ghost use Rattle.es_tokens.specs.Misplaced.{same_bracket, closes, misplaced};
+ghost use Rattle.es_tokens.specs.inner.StepShown.{IsNext};
 
+use crate::character::is_terminator;
 use crate::context::{Context, Stack};
 use crate::cursor::split_first;
 use crate::family::Family;
 use crate::gap::Gap;
+use crate::keyword::keyword_role;
 use crate::machine::after_longest;
-use crate::role::{Bracket, Role, keyword_role, mark_role};
+use crate::punctuator_role::punctuator_role;
+use crate::role::{Bracket, Role};
 use crate::token::{LexToken, TokenClass, TokenFault, TokenKind};
 use fault_place::Span;
 
@@ -37,6 +42,16 @@ fn after_gap(first: bool, rest: &str) -> &str
     }
 }
 
+/// The gap that a rest begins with, and what it leaves.
+fn split_gap(first: bool, rest: &str) -> (&str, &str)
+    ensures gap { chars result.0.now ≡ passed (chars rest.now) (chars result.1.now) }
+    ensures left { chars result.1.now ≡ after_gap first (chars rest.now) }
+    ensures within { length result.1.now ≤ length rest.now }
+{
+    let left = after_gap(first, rest);
+    (&rest[..rest.len() - left.len()], left)
+}
+
 /// The place in a text, in bytes, behind which a rest is left.
 fn place(text: &str, rest: &str) -> u32
     requires within { length rest.now ≤ length text.now }
@@ -47,18 +62,12 @@ fn place(text: &str, rest: &str) -> u32
     (text.len() - rest.len()) as u32
 }
 
-fn starts_separator(bytes: &[u8]) -> bool
-    ensures { result ≡ starts_separator bytes.now }
+fn holds_terminator(gap: &str) -> bool
+    ensures { result ≡ holds_terminator (chars gap.now) }
 {
-    bytes.starts_with(&[0xe2, 0x80, 0xa8]) || bytes.starts_with(&[0xe2, 0x80, 0xa9])
-}
-
-fn holds_terminator(bytes: &[u8]) -> bool
-    ensures { result ≡ holds_terminator bytes.now }
-{
-    let mut rest = bytes;
-    while let [first, after @ ..] = rest {
-        if *first == b'\n' || *first == b'\r' || starts_separator(rest) {
+    let mut rest = gap;
+    while let Some((c, after)) = split_first(rest) {
+        if is_terminator(c) {
             return true;
         }
         rest = after;
@@ -86,9 +95,12 @@ fn class_and_role(family: Family, bytes: &[u8]) -> (TokenClass, Role)
         }
         Family::Resumed => (TokenClass::Middle, Role::Operator),
         Family::Private => (TokenClass::PrivateName, Role::Value),
-        Family::Comment | Family::Mark | Family::Question => (TokenClass::Punct, mark_role(bytes)),
+        Family::Comment | Family::Punctuator | Family::Question => (
+            TokenClass::Punct,
+            punctuator_role(bytes),
+        ),
         Family::Regex => (TokenClass::Regex, Role::Value),
-        Family::Decimal | Family::Radix => (TokenClass::Number, Role::Value),
+        Family::Decimal | Family::NonDecimal => (TokenClass::Number, Role::Value),
         Family::Name => match keyword_role(bytes) {
             Some(role) => (TokenClass::Keyword, role),
             None => (TokenClass::Name, Role::Value),
@@ -97,17 +109,16 @@ fn class_and_role(family: Family, bytes: &[u8]) -> (TokenClass, Role)
 }
 
 /// The token between two places, and its role.
-#[tactic(auto, unfolding(crate::specs::Brackets::role_in))]
-fn token_at(text: &[u8], family: Family, from: u32, span: Span, depth: u16) -> (LexToken, Role)
-    requires start { from ≤ span.start }
+#[tactic(auto, unfolding(crate::specs::TokenRole::role_in))]
+fn token_at(text: &[u8], family: Family, gap: &str, span: Span, depth: u16) -> (LexToken, Role)
     requires end { span.start ≤ span.end }
     requires within { span.end ≤ length text.now }
-    ensures token { result.0 ≡ token_at text.now family from span.start span.end depth }
+    ensures token { result.0 ≡ token_at text.now family (chars gap.now) span.start span.end depth }
     ensures role { result.1 ≡ role_in text.now result.0 }
 {
     let Span { start, end } = span;
     let (class, role) = class_and_role(family, &text[start as usize..end as usize]);
-    let new_line = holds_terminator(&text[from as usize..start as usize]);
+    let new_line = holds_terminator(gap);
     let token = LexToken {
         class,
         span,
@@ -168,14 +179,14 @@ fn token_step<'a>(
     text: &'a str,
     brackets: &Stack,
     family: Family,
-    from: u32,
+    gap: &str,
     begun: &'a str,
 ) -> Next<'a>
-    requires within { from + length begun.now ≤ length text.now }
+    requires within { length begun.now ≤ length text.now }
     requires short { length text.now ≤ 2 ^ 30 }
     requires deep { length brackets.now ≤ most }
     ensures { IsNext most text.now brackets.now result
-        (token_step most text.now brackets.now family from (chars begun.now)
+        (token_step most text.now brackets.now family (chars gap.now) (chars begun.now)
         (after_longest (has_shape (shape_of family)) (chars begun.now))) }
 {
     let start = place(text, begun);
@@ -189,7 +200,7 @@ fn token_step<'a>(
         start,
         end: place(text, left),
     };
-    let (token, role) = token_at(text.as_bytes(), family, from, span, brackets.len() as u16);
+    let (token, role) = token_at(text.as_bytes(), family, gap, span, brackets.len() as u16);
     match misplaced(most, brackets, role) {
         None => Next::Token(token, role, left),
         Some(kind) => Next::Fault(TokenFault {
@@ -209,11 +220,11 @@ pub(crate) fn step<'a>(most: u16, text: &'a str, context: &Context, rest: &'a st
         (step most text.now context.now (chars rest.now)) }
 {
     let brackets = &context.brackets;
-    let begun = after_gap(context.first, rest);
+    let (gap, begun) = split_gap(context.first, rest);
     let Some((c, more)) = split_first(begun) else {
         return end(text, brackets);
     };
     let resumes = closes(Bracket::Template, brackets);
     let family = Family::new(context.division, resumes, c, more);
-    token_step(most, text, brackets, family, place(text, rest), begun)
+    token_step(most, text, brackets, family, gap, begun)
 }

@@ -1,5 +1,5 @@
 ghost use Rattle.std.specs.Prelude.{◌≡◌};
-ghost use Rattle.es_tokens.specs.Brackets.{is_dot, for_by, condition_by, wants_value, value_by, division_by};
+ghost use Rattle.es_tokens.specs.Division.{is_dot, is_loop, precedes_condition, wants_value, bracket_holds_value, precedes_division};
 
 use crate::role::{Bracket, Role};
 
@@ -12,14 +12,14 @@ pub(crate) fn is_dot(role: Role) -> bool
 
 /// Whether it is a `for` that isn't a member's name.
 pub(crate) fn is_loop(role: Role, dotted: bool) -> bool
-    ensures { result ≡ for_by role dotted }
+    ensures { result ≡ is_loop role dotted }
 {
     matches!(role, Role::For) && !dotted
 }
 
 /// Whether a `(` behind it opens a condition.
-pub(crate) fn opens_condition(role: Role, dotted: bool, looped: bool) -> bool
-    ensures { result ≡ condition_by role dotted looped }
+pub(crate) fn precedes_condition(role: Role, dotted: bool, looped: bool) -> bool
+    ensures { result ≡ precedes_condition role dotted looped }
 {
     match role {
         Role::Control | Role::For => !dotted,
@@ -40,8 +40,8 @@ pub(crate) fn wants_value(role: Role) -> bool
 }
 
 /// Whether what an opener encloses is a value.
-pub(crate) fn encloses_value(bracket: Bracket, condition: bool, expression: bool) -> bool
-    ensures { result ≡ value_by (Role.Open bracket) condition expression }
+pub(crate) fn bracket_holds_value(bracket: Bracket, condition: bool, expression: bool) -> bool
+    ensures { result ≡ bracket_holds_value (Role.Open bracket) condition expression }
 {
     match bracket {
         Bracket::Round => !condition,
@@ -51,8 +51,8 @@ pub(crate) fn encloses_value(bracket: Bracket, condition: bool, expression: bool
 }
 
 /// Whether a `/` behind it is a division.
-pub(crate) fn is_division(role: Role, dotted: bool, enclosed: bool) -> bool
-    ensures { result ≡ division_by role dotted enclosed }
+pub(crate) fn precedes_division(role: Role, dotted: bool, enclosed: bool) -> bool
+    ensures { result ≡ precedes_division role dotted enclosed }
 {
     match role {
         Role::Value => true,

@@ -1,4 +1,4 @@
-ghost use Rattle.es_tokens.specs.TemplateMachine.{template_left};
+ghost use Rattle.es_tokens.specs.inner.TemplateMachine.{template_left};
 
 use crate::character::is_template_char;
 use crate::machine::Machine;
@@ -13,7 +13,7 @@ pub(crate) enum Template {
     Body,
     Dollar,
     /// Behind a backslash.
-    Taken,
+    Backslash,
     Closed,
 }
 
@@ -37,17 +37,17 @@ impl Machine for Template {
             },
             Template::Body => match c {
                 '`' => Some(Template::Closed),
-                '\\' => Some(Template::Taken),
+                '\\' => Some(Template::Backslash),
                 '$' => Some(Template::Dollar),
                 _ => is_template_char(c).then_some(Template::Body),
             },
             Template::Dollar => match c {
                 '`' | '{' => Some(Template::Closed),
-                '\\' => Some(Template::Taken),
+                '\\' => Some(Template::Backslash),
                 '$' => Some(Template::Dollar),
                 _ => is_template_char(c).then_some(Template::Body),
             },
-            Template::Taken => Some(Template::Body),
+            Template::Backslash => Some(Template::Body),
             Template::Closed => None,
         }
     }

@@ -4,7 +4,7 @@ use fault_place::{NoMemory, Span};
 use std::alloc::AllocFailed;
 use std::mem::size_of;
 
-/// What a token is. A mark's text, a bracket's too, is that of its span.
+/// What a token is. A punctuator's text, a bracket's too, is that of its span.
 #[derive(Clone, Copy, Debug, PartialEq, Eq)]
 pub enum TokenClass {
     Name,

@@ -1,5 +1,6 @@
 pub mod formers
 pub mod Fault
+pub mod inner
 pub mod Limit
 pub mod Order
 pub mod Place

@@ -10,6 +10,7 @@ mod limit;
 mod number;
 mod order;
 mod place;
+mod places;
 mod seq;
 mod shared;
 mod text;
@@ -19,9 +20,8 @@ pub use fault::{Fault, FaultKind, fault_line};
 pub use limit::{Limit, MAX_TEXT};
 pub use number::{ChunkNo, FileId, GroupNo, ModuleNo, Span};
 pub use order::sort_faults;
+pub use pack_util::NoMemory;
 pub use place::{Place, Spot, place_at};
+pub use places::Places;
 pub use seq::Seq;
 pub use text::Text;
-
-/// The error of what fails for want of memory alone.
-pub type NoMemory = std::alloc::AllocError;

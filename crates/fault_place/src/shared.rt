@@ -1,8 +1,7 @@
 //! What threads share may be sent to any of them and read by all at once.
 
 use crate::{Bytes, Fault, Seq, Text};
-
-fn is_shared<T: Send + Sync>(_value: &T) {}
+use pack_util::is_shared;
 
 fn are_shared<T: Send + Sync>(text: &Text, bytes: &Bytes, fault: &Fault, list: &Seq<T>) {
     is_shared(text);

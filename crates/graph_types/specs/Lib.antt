@@ -1,5 +1,12 @@
+pub use Rattle.fault_place.specs.Limit
+pub mod CacheGroups
+pub mod Condition
 pub mod Edges
+pub mod Fits
+pub mod Graphs
+pub mod GroupList
 pub mod Modules
 pub mod Parts
 pub mod Reached
+pub mod Targets
 pub mod Whole

@@ -1,6 +1,7 @@
 -- The modules of a graph (this project): a module's number is the place of its record, and records stand in the order of
 -- their files.
-use Rattle.std.specs.Prelude.{ℕ, ◌==◌, List, map, position, Option, option_map}
+use Rattle.std.specs.Prelude.{ℕ, ◌<◌, ◌^◌, ◌==◌, List, map, length, position, Option, option_map}
+use Rattle.std.specs.List.{AllByRecursion}
 use Rattle.std.specs.List.Sorted.{IsStrictlyIncreasing}
 use Rattle.fault_place.specs.declared.fault.Fault.{Fault}
 use Rattle.fault_place.specs.declared.number.FileId.{FileId}
@@ -26,6 +27,15 @@ files_of records = map (λ rec. rec.file.0) records
 -- the file of each record is below that of the next
 abbrev pub AreAscending : List ModRecord → Type 0
 AreAscending records = IsStrictlyIncreasing (files_of records)
+
+-- records in the order of their files, so few that each place is a module's number
+pub record AreModules (records : List ModRecord) : Type 0 where
+  pub ascending : AreAscending records
+  pub few : length records < 2 ^ 32
+
+-- numbers of modules
+abbrev pub AreNumbersOf : List ModRecord → List ModuleNo → Type 0
+AreNumbersOf records modules = AllByRecursion (λ number. number.0 < length records) modules
 
 -- the module of a file, where the file is reached
 abbrev pub module_of : List ModRecord → FileId → Option ModuleNo

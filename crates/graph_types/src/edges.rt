@@ -1,12 +1,12 @@
 //! What leads from one module to another.
 ghost use Rattle.std.specs.Prelude.{◌≡◌, ◌+◌, ◌<◌, ◌^◌, ◌++◌, length, map, All, OnOk, IfOk};
 ghost use Rattle.graph_types.specs.Edges.{is_lazy, sync_target, sync_targets_of, block_of, blocks_in, blocks_of, HasFewItems};
-ghost use Rattle.graph_types.specs.Modules.{AreAscending};
+ghost use Rattle.graph_types.specs.Modules.{AreModules};
 
-use crate::list::add_some;
 use crate::modules::module_of;
 use crate::{Block, Item, ItemKind, ModRecord};
 use fault_place::{ModuleNo, NoMemory, Seq};
+use pack_util::add_some;
 use std::alloc::Global;
 
 fn is_lazy(kind: ItemKind) -> bool
@@ -19,8 +19,7 @@ fn is_lazy(kind: ItemKind) -> bool
 }
 
 fn sync_target(records: &[ModRecord], item: &Item) -> Option<ModuleNo>
-    requires ascending { AreAscending records.now }
-    requires few { length records.now < 2 ^ 32 }
+    requires modules { AreModules records.now }
     ensures { result ≡ sync_target records.now item.now }
 {
     if is_lazy(item.kind) {
@@ -34,8 +33,7 @@ fn sync_targets(
     records: &[ModRecord],
     rec: &ModRecord,
 ) -> Result<Seq<ModuleNo>, NoMemory>
-    requires ascending { AreAscending records.now }
-    requires few { length records.now < 2 ^ 32 }
+    requires modules { AreModules records.now }
     ensures { IfOk result (λ targets. targets ≡ sync_targets_of records.now rec.now) }
 {
     let mut targets = Vec::new(alloc);
@@ -50,8 +48,7 @@ pub fn all_sync_targets(
     alloc: Global,
     records: &[ModRecord],
 ) -> Result<Vec<Seq<ModuleNo>>, NoMemory>
-    requires ascending { AreAscending records.now }
-    requires few { length records.now < 2 ^ 32 }
+    requires modules { AreModules records.now }
     ensures { IfOk result (λ all. all.items ≡ map (sync_targets_of records.now) records.now) }
 {
     let mut all = Vec::new(alloc);
@@ -62,8 +59,7 @@ pub fn all_sync_targets(
 }
 
 fn block(records: &[ModRecord], module: u32, number: u32, item: &Item) -> Option<Block>
-    requires ascending { AreAscending records.now }
-    requires few { length records.now < 2 ^ 32 }
+    requires modules { AreModules records.now }
     ensures { result ≡ block_of records.now «module» (number, item.now) }
 {
     if !is_lazy(item.kind) {
@@ -83,8 +79,7 @@ fn add_blocks(
     module: u32,
     rec: &ModRecord,
 ) -> Result<(), NoMemory>
-    requires ascending { AreAscending records.now }
-    requires few { length records.now < 2 ^ 32 }
+    requires modules { AreModules records.now }
     requires few_items { HasFewItems rec.now }
     ensures { OnOk result (blocks.new.items ≡ blocks.old.items ++ blocks_in records.now («module», rec.now)) }
 {
@@ -96,8 +91,7 @@ fn add_blocks(
 
 /// All blocks, by module and item.
 pub fn all_blocks(alloc: Global, records: &[ModRecord]) -> Result<Vec<Block>, NoMemory>
-    requires ascending { AreAscending records.now }
-    requires few { length records.now < 2 ^ 32 }
+    requires modules { AreModules records.now }
     requires few_items { All HasFewItems records.now }
     ensures { IfOk result (λ blocks. blocks.items ≡ blocks_of records.now) }
 {

@@ -1,6 +1,6 @@
-ghost use Rattle.std.specs.Prelude.{◌≡◌, ◌<◌, ◌^◌, map, length, slice_index_or, filter_map, vec_len, All, IfOk};
+ghost use Rattle.std.specs.Prelude.{◌≡◌, ◌<◌, map, length, slice_index_or, filter_map, All, IfOk};
 ghost use Rattle.graph_types.specs.Edges.{blocks_of, sync_targets_of, HasFewItems};
-ghost use Rattle.graph_types.specs.Modules.{AreAscending, module_of};
+ghost use Rattle.graph_types.specs.Modules.{AreModules, AreNumbersOf, module_of};
 
 use crate::edges::{all_blocks, all_sync_targets};
 use crate::modules::{all_roots, module_of};
@@ -20,18 +20,19 @@ pub struct ModuleGraph {
 }
 
 impl Model for ModuleGraph {
-    ghost use Rattle.std.specs.Prelude.{◌≡◌, ◌<◌, ◌^◌, map, length};
+    ghost use Rattle.std.specs.Prelude.{◌≡◌, map};
     ghost use Rattle.graph_types.specs.Edges.{blocks_of, sync_targets_of};
-    ghost use Rattle.graph_types.specs.Modules.{AreAscending, Graph};
+    ghost use Rattle.std.specs.List.{AllByRecursion};
+    ghost use Rattle.graph_types.specs.Modules.{AreModules, AreNumbersOf, Graph};
 
     ghost Value = { Graph };
 
     ghost view = { λ graph. record { records = graph.records.items; roots = graph.roots.items; faults = graph.faults.items } };
 
-    ghost invariant = { λ graph. AreAscending graph.records.items
-        × (length graph.records.items < 2 ^ 32)
+    ghost invariant = { λ graph. AreModules graph.records.items
         × (graph.sync_targets.items ≡ map (sync_targets_of graph.records.items) graph.records.items)
-        × (graph.blocks.items ≡ blocks_of graph.records.items) };
+        × (graph.blocks.items ≡ blocks_of graph.records.items)
+        × AllByRecursion (AreNumbersOf graph.records.items) graph.roots.items };
 }
 
 impl ModuleGraph {
@@ -39,22 +40,20 @@ impl ModuleGraph {
     pub fn from_records(
         alloc: Global,
         recs: Vec<ModRecord>,
-        entries: Vec<Seq<FileId>>,
+        entries: &[Seq<FileId>],
         faults: Vec<Fault>,
     ) -> Result<ModuleGraph, NoMemory>
-        requires ascending { AreAscending recs.items }
-        requires few { vec_len recs < 2 ^ 32 }
-        requires few_blocks { length (blocks_of recs.items) < 2 ^ 32 }
+        requires modules { AreModules recs.items }
         requires few_items { All HasFewItems recs.items }
         ensures { IfOk result (λ graph. graph ≡ record {
           records = recs.items;
-          roots = map (filter_map (module_of recs.items)) entries.items;
+          roots = map (filter_map (module_of recs.items)) entries.now;
           faults = faults.items;
         }) }
     {
         let sync_targets = all_sync_targets(alloc, &recs)?;
         let blocks = all_blocks(alloc, &recs)?;
-        let roots = all_roots(alloc, &recs, &entries)?;
+        let roots = all_roots(alloc, &recs, entries)?;
         Ok(ModuleGraph {
             records: recs,
             sync_targets,
@@ -67,7 +66,7 @@ impl ModuleGraph {
     /// The number of modules.
     pub fn count(&self) -> u32
         ensures count { result ≡ length self.now.records }
-        ensures ascending { AreAscending self.now.records }
+        ensures modules { AreModules self.now.records }
     {
         self.records.len() as u32
     }
@@ -103,7 +102,8 @@ impl ModuleGraph {
     /// The modules of an entry, in the order of the configuration.
     pub fn entry_roots(&self, e: u32) -> &[ModuleNo]
         requires { e < length self.now.roots }
-        ensures { result.now ≡ slice_index_or self.now.roots e result.now }
+        ensures are { result.now ≡ slice_index_or self.now.roots e result.now }
+        ensures modules { AreNumbersOf self.now.records result.now }
     {
         self.roots[e as usize].as_slice()
     }

@@ -11,12 +11,16 @@
 
 mod binding;
 mod block;
+mod cache_group;
+mod condition;
+mod config;
 mod edges;
 mod edit;
+mod entry;
 mod graph;
+mod groups;
 mod item;
 pub mod laws;
-mod list;
 mod modules;
 mod note;
 mod part;
@@ -26,8 +30,13 @@ mod template;
 
 pub use binding::{Bind, Export, ExportFrom, Star};
 pub use block::Block;
+pub use cache_group::{CacheGroup, Select};
+pub use condition::Condition;
+pub use config::Config;
 pub use edit::{Edit, EditText};
+pub use entry::{EntryFile, EntrySpec};
 pub use graph::ModuleGraph;
+pub use groups::{GroupInfo, Groups};
 pub use item::{Item, ItemKind};
 pub use note::{Note, NoteKind};
 pub use part::Part;

@@ -1,18 +1,17 @@
 //! The modules of files.
-ghost use Rattle.std.specs.Prelude.{◌≡◌, ◌<◌, ◌^◌, length, map, filter_map, option_and_then, IfOk};
+ghost use Rattle.std.specs.Prelude.{◌≡◌, map, filter_map, IfOk};
 ghost use Rattle.std.specs.Ordering.{nat_cmp};
-ghost use Rattle.graph_types.specs.Modules.{AreAscending, module_of};
+ghost use Rattle.graph_types.specs.Modules.{AreModules, module_of};
 
 use crate::ModRecord;
-use crate::list::add_some;
 use fault_place::{FileId, ModuleNo, NoMemory, Seq};
+use pack_util::add_some;
 use std::alloc::Global;
 use std::cmp::Ordering;
 
 /// The module of a file, found by halving.
 pub fn module_of(records: &[ModRecord], file: FileId) -> Option<ModuleNo>
-    requires ascending { AreAscending records.now }
-    requires few { length records.now < 2 ^ 32 }
+    requires modules { AreModules records.now }
     ensures { result ≡ module_of records.now file }
 {
     let found = records.binary_search_by(
@@ -27,8 +26,7 @@ pub fn module_of(records: &[ModRecord], file: FileId) -> Option<ModuleNo>
 }
 
 fn roots(alloc: Global, records: &[ModRecord], entry: &[FileId]) -> Result<Seq<ModuleNo>, NoMemory>
-    requires ascending { AreAscending records.now }
-    requires few { length records.now < 2 ^ 32 }
+    requires modules { AreModules records.now }
     ensures { IfOk result (λ modules. modules ≡ filter_map (module_of records.now) entry.now) }
 {
     let mut modules = Vec::new(alloc);
@@ -44,8 +42,7 @@ pub fn all_roots(
     records: &[ModRecord],
     entries: &[Seq<FileId>],
 ) -> Result<Vec<Seq<ModuleNo>>, NoMemory>
-    requires ascending { AreAscending records.now }
-    requires few { length records.now < 2 ^ 32 }
+    requires modules { AreModules records.now }
     ensures { IfOk result (λ all. all.items ≡ map (filter_map (module_of records.now)) entries.now) }
 {
     let mut all = Vec::new(alloc);

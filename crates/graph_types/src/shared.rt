@@ -1,11 +1,18 @@
 //! What threads share may be sent to any of them and read by all at once.
 
-use crate::{ModRecord, ModuleGraph, Template};
+use crate::{Config, Groups, ModRecord, ModuleGraph, Template};
+use pack_util::is_shared;
 
-fn is_shared<T: Send + Sync>(_value: &T) {}
-
-fn are_shared(record: &ModRecord, graph: &ModuleGraph, template: &Template) {
+fn are_shared(
+    record: &ModRecord,
+    graph: &ModuleGraph,
+    groups: &Groups,
+    template: &Template,
+    config: &Config,
+) {
     is_shared(record);
     is_shared(graph);
+    is_shared(groups);
     is_shared(template);
+    is_shared(config);
 }

@@ -9,8 +9,8 @@ use Rattle.json_order.specs.declared.frame.Frame.TheVariants as frame
 use Rattle.json_order.specs.declared.mode.Mode.TheVariants as mode
 use Rattle.json_order.specs.declared.reader.Reader.{Reader}
 use Rattle.json_order.specs.Grammar.{IsSpace, Space, MoreItems, MoreMembers, Member, Value}
-use Rattle.json_order.specs.Steps.{tree_at, place_in, after_step, spaced, is_space, comma_in, closed_list, closed_object}
-use Rattle.json_order.specs.Frames.{inner_of}
+use Rattle.json_order.specs.inner.Steps.{tree_at, place_in, after_step, spaced, is_space, comma_in, closed_list, closed_object}
+use Rattle.json_order.specs.inner.Frames.{inner_of}
 use Rattle.json_order.specs.Members.{merged}
 use Rattle.json_order.proofs.Rest.{Plan, root_of, Behind, RestAfter, Lands}
 use Rattle.json_order.proofs.Tests.{tested, at_space, same_depth, space_from_test}

@@ -5,7 +5,7 @@ use Rattle.json_order.specs.declared.fault.JsonFault.{JsonFault}
 use Rattle.json_order.specs.declared.fault.JsonEnd.{JsonEnd}
 use Rattle.json_order.specs.declared.fault.JsonEnd.TheVariants as end
 use Rattle.json_order.specs.Answer.{AnswersBy, IsAnswer, IsAnswerFrom}
-use Rattle.json_order.specs.Steps.{run, fresh}
+use Rattle.json_order.specs.inner.Steps.{run, fresh}
 use Rattle.json_order.proofs.RunLaws.{run_answers}
 use Rattle.json_order.proofs.OneAnswer.{one_answer_from}
 

@@ -15,8 +15,8 @@ use Rattle.json_order.specs.declared.mode.Letters.{Letters}
 use Rattle.json_order.specs.declared.mode.Letters.TheVariants as letters
 use Rattle.json_order.specs.declared.reader.Reader.{Reader}
 use Rattle.json_order.specs.Grammar.{Word, Value, Form, null, boolean, number, string, array, object, Formed, Items, MoreItems, Members, MoreMembers, Piece, plain, escape, unit, spelled, IsPiece, IsUnescaped, Chars}
-use Rattle.json_order.specs.Modes.{is_final}
-use Rattle.json_order.specs.Steps.{tree_at, place_in, closed_number, finished, finish_in, root_at}
+use Rattle.json_order.specs.inner.Modes.{is_final}
+use Rattle.json_order.specs.inner.Steps.{tree_at, place_in, closed_number, finished, finish_in, root_at}
 use Rattle.json_order.proofs.Rest.{Rest, RestOfFirstItem, RestOfFirstKey, RestOfKey, RestOfColon, RestAfter, RestOfNumber, left_of}
 use Rattle.json_order.proofs.Tests.{tested}
 use Rattle.json_order.proofs.Places.{reader}

@@ -13,7 +13,7 @@ use Rattle.json_order.specs.declared.mode.Digits.{Digits}
 use Rattle.json_order.specs.declared.mode.Digits.TheVariants as digits
 use Rattle.json_order.specs.declared.reader.Reader.{Reader}
 use Rattle.json_order.specs.Grammar.{Word, Space, Value, number, escape, Chars, AreTails}
-use Rattle.json_order.specs.Steps.{tree_at}
+use Rattle.json_order.specs.inner.Steps.{tree_at}
 use Rattle.json_order.proofs.Rest.{Plan, root_of, Behind, Rest, left_of, ends, Rooted, Followed, content_with, content_number, Completes, colon}
 use Rattle.json_order.proofs.Places.{reader}
 use Rattle.json_order.proofs.NumberLaws.{number_from_begins}

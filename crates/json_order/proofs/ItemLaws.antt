@@ -12,7 +12,7 @@ use Rattle.json_order.specs.declared.mode.Mode.TheVariants as mode
 use Rattle.json_order.specs.declared.reader.Reader.{Reader}
 use Rattle.json_order.specs.Grammar.{Word, IsSpace, Space, Items, Members, MoreMembers, Member, Value, Chars, content_of}
 use Rattle.json_order.specs.Members.{put, merged}
-use Rattle.json_order.specs.Steps.{tree_at, place_in, value_step, first_item_step, key_step, first_key_step, colon_step, closed_list, closed_object, spaced, is_space, string_at, in_mode}
+use Rattle.json_order.specs.inner.Steps.{tree_at, place_in, value_step, first_item_step, key_step, first_key_step, colon_step, closed_list, closed_object, spaced, is_space, string_at, in_mode}
 use Rattle.json_order.proofs.Rest.{Plan, root_of, Behind, Lands, RestOfFirstItem, RestOfFirstKey, RestOfKey, RestOfColon, RestOfValue, colon}
 use Rattle.json_order.proofs.Tests.{by_test, tested, at_space, same_depth, space_from_test}
 use Rattle.json_order.proofs.Places.{reader, place_on, place_back}

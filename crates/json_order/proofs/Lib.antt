@@ -1,3 +1,4 @@
+pub mod MembersLaw
 pub mod MembersLemmas
 pub mod Words
 pub mod Rest

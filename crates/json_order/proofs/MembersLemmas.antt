@@ -10,11 +10,8 @@ use Rattle.indexmap.specs.IndexMap.{insert_entry}
 use Rattle.json_order.specs.declared.members.Held.{Held}
 use Rattle.json_order.specs.declared.tree.JsonPair.{JsonPair}
 use Rattle.json_order.specs.declared.tree.JsonTree.{JsonTree}
-use Rattle.json_order.specs.Held.{pair_of, pairs_of, place_of}
+use Rattle.json_order.specs.inner.Held.{held, pair_of, pairs_of, place_of}
 use Rattle.json_order.specs.Members.{put}
-
-abbrev held : ℕ → JsonTree → Held
-held key_at value = record { key_at = key_at; value = value }
 
 at_first : (b : Bool) (e : String Global × Held) (es is : List (String Global × Held)) (ps : List JsonPair) (found : Option Held) (at k : ℕ) (value : JsonTree)
     → k ≡ option_map_or (λ h. h.key_at) (cond b (Some e.1) found) at
@@ -26,11 +23,11 @@ at_first true e es is ps found at k value h rest =
 at_first false e es is ps found at k value h rest = ap (λ (xs : List JsonPair). pair_of e ∷ xs) (rest h)
 
 pub pairs_of-insert_entry : (es : List (String Global × Held)) (key : String Global) (at k : ℕ) (value : JsonTree)
-    → k ≡ place_of es (string_bytes key) at
+    → k ≡ place_of es key at
     → pairs_of (insert_entry string_eq es key (held k value)) ≡ put (pairs_of es) (string_bytes key) at value
 pairs_of-insert_entry [] key at k value h =
     ap (λ (n : ℕ). let p : JsonPair = record { key = string_bytes key; key_at = n; value = value } in p ∷ []) h
 pairs_of-insert_entry (e ∷ es) key at k value h =
     at_first (bytes_eq (string_bytes key) (string_bytes e.0)) e es (insert_entry string_eq es key (held k value))
-    (put (pairs_of es) (string_bytes key) at value) (lookup (λ x. bytes_eq (string_bytes key) (string_bytes x)) es) at k value h
+    (put (pairs_of es) (string_bytes key) at value) (lookup (string_eq key) es) at k value h
     (λ g. pairs_of-insert_entry es key at k value g)

@@ -7,7 +7,7 @@ use Rattle.std.specs.List.{AllByRecursion}
 use Rattle.json_order.specs.declared.mode.Part.{Part}
 use Rattle.json_order.specs.declared.mode.Part.TheVariants as part
 use Rattle.json_order.specs.Grammar.{IsDigit, IsDigits, IsMinus, IsInt, IsFrac, IsSigned, IsExp, IsNumber}
-use Rattle.json_order.specs.Modes.{first_part, first_digit, digit, or_else, after_integer, after_fraction, sign}
+use Rattle.json_order.specs.inner.Modes.{first_part, first_digit, digit, or_else, after_integer, after_fraction, sign}
 use Rattle.json_order.proofs.Rest.{ends}
 use Rattle.json_order.proofs.Tests.{tested, either}
 

@@ -6,7 +6,7 @@ use Rattle.json_order.specs.declared.frame.Frame.{Frame}
 use Rattle.json_order.specs.declared.frame.Frame.TheVariants as frame
 use Rattle.json_order.specs.declared.mode.Mode.{Mode}
 use Rattle.json_order.specs.declared.reader.Reader.{Reader}
-use Rattle.json_order.specs.Steps.{tree_at, place_in}
+use Rattle.json_order.specs.inner.Steps.{tree_at, place_in}
 use Rattle.json_order.proofs.Rest.{Plan, root_of, Behind, Lands}
 use Rattle.json_order.proofs.Tests.{same_depth}
 

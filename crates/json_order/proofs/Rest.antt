@@ -15,8 +15,8 @@ use Rattle.json_order.specs.declared.mode.Digits.{Digits}
 use Rattle.json_order.specs.declared.reader.Reader.{Reader}
 use Rattle.json_order.specs.Grammar.{IsEnd, Word, Space, Value, Items, MoreItems, Members, MoreMembers, Member, Piece, plain, escape, unit, spelled, IsPiece, IsHexDigit, unit_of, is_high, is_low, character, paired, content_of, Chars, AreTails}
 use Rattle.json_order.specs.Members.{put, merged}
-use Rattle.json_order.specs.Modes.{next_part, is_final, named, with_digit}
-use Rattle.json_order.specs.Steps.{tree_at}
+use Rattle.json_order.specs.inner.Modes.{next_part, is_final, named, with_digit}
+use Rattle.json_order.specs.inner.Steps.{tree_at}
 
 -- what is still to come of each open bracket
 abbrev pub Plan : List Frame → Type 0

@@ -8,7 +8,7 @@ use Rattle.json_order.specs.declared.fault.JsonKind.{JsonKind}
 use Rattle.json_order.specs.declared.fault.JsonKind.TheVariants as kind
 use Rattle.json_order.specs.Grammar.{IsText}
 use Rattle.json_order.specs.Answer.{depth_limit, GoesOn, CanGoOn, IsFaultOf, IsAnswerFrom}
-use Rattle.json_order.specs.Steps.{step, finished, run, ends_by, goes_by, fault_at, fresh}
+use Rattle.json_order.specs.inner.Steps.{step, finished, run, ends_by, goes_by, fault_at, fresh}
 use Rattle.json_order.proofs.Rest.{Rest, Lands}
 use Rattle.json_order.proofs.Tests.{tested}
 use Rattle.json_order.proofs.Valid.{Valid, AllValid}

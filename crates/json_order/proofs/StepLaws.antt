@@ -8,7 +8,7 @@ use Rattle.json_order.specs.declared.mode.Mode.{Mode}
 use Rattle.json_order.specs.declared.mode.Mode.TheVariants as mode
 use Rattle.json_order.specs.declared.reader.Reader.{Reader}
 use Rattle.json_order.specs.Grammar.{IsSpace}
-use Rattle.json_order.specs.Steps.{step, step_in, value_step, alone}
+use Rattle.json_order.specs.inner.Steps.{step, step_in, value_step, alone}
 use Rattle.json_order.proofs.Rest.{Rest, RestOfValue, Lands}
 use Rattle.json_order.proofs.Tests.{at_space, same_depth}
 use Rattle.json_order.proofs.Places.{reader}

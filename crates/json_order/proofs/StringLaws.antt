@@ -15,8 +15,8 @@ use Rattle.json_order.specs.declared.mode.Digits.{Digits}
 use Rattle.json_order.specs.declared.mode.Digits.TheVariants as digits
 use Rattle.json_order.specs.declared.reader.Reader.{Reader}
 use Rattle.json_order.specs.Grammar.{Word, Chars, Piece, plain, escape, unit, IsUnescaped, Tails, tails_of, AreTails, escaped, unit_of, is_high, is_low, character, paired, content_of}
-use Rattle.json_order.specs.Modes.{with_digit, tail_behind}
-use Rattle.json_order.specs.Steps.{tree_at, chars_step, unescaped_step, tail_on, escape_step, escape_on, hex_step, digits_on, with_unit, lone_unit, tail_step, tail_mode, closed_string, string_done, keyed_in, ended, alone, with_bytes, in_mode}
+use Rattle.json_order.specs.inner.Modes.{with_digit, tail_behind}
+use Rattle.json_order.specs.inner.Steps.{tree_at, chars_step, unescaped_step, tail_on, escape_step, escape_on, hex_step, digits_on, with_unit, lone_unit, tail_step, tail_mode, closed_string, string_done, keyed_in, ended, alone, with_bytes, in_mode}
 use Rattle.json_order.proofs.Rest.{Plan, root_of, Behind, Lands, RestOfChars, RestOfEscape, RestOfHex, RestOfTail, RestOfColon, Rooted, Followed, content_with, content_number, Completes}
 use Rattle.json_order.proofs.Tests.{by_test, tested, same_depth}
 use Rattle.json_order.proofs.Places.{reader, place_on, place_back}

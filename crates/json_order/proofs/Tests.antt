@@ -2,7 +2,7 @@
 use Rattle.std.proofs.Common.{◌≡◌, ◌==◌, ◌||◌, ◌&&◌, ℕ, suc, ◌+◌, Bool, true, false, cond, ◌⊎◌, inl, inr, refl, subst, sym, arith}
 use Rattle.std.proofs.lemmas.Bool.{eqb-true}
 use Rattle.json_order.specs.Grammar.{IsSpace}
-use Rattle.json_order.specs.Steps.{is_space}
+use Rattle.json_order.specs.inner.Steps.{is_space}
 
 -- what holds of a choice
 pub by_test : {A : Type 0} (P : A → Type 0) (b : Bool) (x y : A) → (b ≡ true → P x) → (b ≡ false → P y) → P (cond b x y)

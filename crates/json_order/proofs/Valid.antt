@@ -19,9 +19,9 @@ use Rattle.json_order.specs.declared.mode.Digits.{Digits}
 use Rattle.json_order.specs.declared.mode.Digits.TheVariants as digits
 use Rattle.json_order.specs.declared.reader.Reader.{Reader}
 use Rattle.json_order.specs.Grammar.{Tails, tails_of, AreTails, escaped, is_high, is_low, character, paired}
-use Rattle.json_order.specs.Frames.{inner_of}
-use Rattle.json_order.specs.Modes.{first_part, next_part, first_digit, digit, or_else, after_integer, after_fraction, sign, is_final, letter_of, letters_after, named, with_digit}
-use Rattle.json_order.specs.Steps.{tree_at, place_in, placed, spaced, is_space, value_step, begin_at, other_at, string_at, key_step, after_step, comma_in, closed_list, close_list_of, closed_object, close_object_of, name_on, number_on, closed_number, chars_step, tail_on, escape_on, digits_on, unit_after, lone_unit, tail_mode, close_string_of, string_done, keyed_in, ended, alone, with_bytes, in_mode, step_in}
+use Rattle.json_order.specs.inner.Frames.{inner_of}
+use Rattle.json_order.specs.inner.Modes.{first_part, next_part, first_digit, digit, or_else, after_integer, after_fraction, sign, is_final, letter_of, letters_after, named, with_digit}
+use Rattle.json_order.specs.inner.Steps.{tree_at, place_in, placed, spaced, is_space, value_step, begin_at, other_at, string_at, key_step, after_step, comma_in, closed_list, close_list_of, closed_object, close_object_of, name_on, number_on, closed_number, chars_step, tail_on, escape_on, digits_on, unit_after, lone_unit, tail_mode, close_string_of, string_done, keyed_in, ended, alone, with_bytes, in_mode, step_in}
 use Rattle.json_order.proofs.Tests.{by_test, tested, either}
 use Rattle.json_order.proofs.Utf8Laws.{IsUtf8-ascii, IsUtf8-character, RowLaws, row_laws}
 use Rattle.json_order.proofs.NumberLaws.{digit_from_test}

@@ -13,8 +13,8 @@ use Rattle.json_order.specs.declared.mode.Letters.{Letters}
 use Rattle.json_order.specs.declared.mode.Letters.TheVariants as letters
 use Rattle.json_order.specs.declared.reader.Reader.{Reader}
 use Rattle.json_order.specs.Grammar.{Word, IsSpace, Space, Items, Members, Value, Form, null, boolean, number, string, array, object, node_of, Formed, Chars}
-use Rattle.json_order.specs.Modes.{first_part, named}
-use Rattle.json_order.specs.Steps.{tree_at, value_step, begin_at, other_at, is_space, string_at, name_at, opened}
+use Rattle.json_order.specs.inner.Modes.{first_part, named}
+use Rattle.json_order.specs.inner.Steps.{tree_at, value_step, begin_at, other_at, is_space, string_at, name_at, opened}
 use Rattle.json_order.proofs.Rest.{Plan, root_of, Behind, Lands, left_of, ends}
 use Rattle.json_order.proofs.Tests.{tested, same_depth, space_from_test}
 use Rattle.json_order.proofs.Places.{reader}

@@ -15,8 +15,8 @@ use Rattle.json_order.specs.declared.mode.Letters.TheVariants as letters
 use Rattle.json_order.specs.declared.reader.Reader.{Reader}
 use Rattle.json_order.specs.Grammar.{Word, IsSpace, MoreItems, MoreMembers, Value}
 use Rattle.json_order.specs.Members.{put}
-use Rattle.json_order.specs.Modes.{next_part, is_final, letter_of, letters_after, named}
-use Rattle.json_order.specs.Steps.{tree_at, place_in, name_step, name_on, number_step, number_on, closed_number, after_step}
+use Rattle.json_order.specs.inner.Modes.{next_part, is_final, letter_of, letters_after, named}
+use Rattle.json_order.specs.inner.Steps.{tree_at, place_in, name_step, name_on, number_step, number_on, closed_number, after_step}
 use Rattle.json_order.proofs.Rest.{Plan, root_of, Behind, Lands, RestOfName, RestOfNumber, RestAfter, left_of, ends}
 use Rattle.json_order.proofs.Tests.{tested, at_space, same_depth}
 use Rattle.json_order.proofs.Places.{reader, place_on, place_back, list_root}

@@ -1,8 +1,9 @@
 ghost use Rattle.std.specs.Prelude.{◌≡◌, [], ◌∷◌, length, reverse, OnOk, Some, None};
-ghost use Rattle.json_order.specs.Frames.{inner_of, popped};
+ghost use Rattle.json_order.specs.inner.Frames.{inner_of, popped};
 
 use crate::JsonTree;
 use crate::members::Members;
+use crate::seed::Seed;
 use crate::word::Key;
 use fault_place::Seq;
 use std::alloc::{AllocError, Global};
@@ -35,6 +36,7 @@ pub(crate) enum Inner {
 #[derive(Drop)]
 pub(crate) struct Stack {
     frames: Vec<Frame>,
+    seed: Seed,
 }
 
 impl Model for Stack {
@@ -51,12 +53,20 @@ impl Model for Stack {
 }
 
 impl Stack {
-    pub(crate) fn new(alloc: Global) -> Stack
+    pub(crate) fn new(alloc: Global, seed: Seed) -> Stack
         ensures { result ≡ [] }
     {
         Stack {
             frames: Vec::new(alloc),
+            seed,
         }
+    }
+
+    /// The members of an object that begins.
+    pub(crate) fn no_members(&self, alloc: Global) -> Members
+        ensures { result ≡ [] }
+    {
+        Members::new(alloc, self.seed)
     }
 
     pub(crate) fn len(&self) -> usize

@@ -2,12 +2,14 @@ ghost use Rattle.std.specs.Prelude.{◌≡◌, [], OnOk, IfOk};
 ghost use Rattle.std.specs.String.{string_eq};
 ghost use Rattle.indexmap.specs.IndexMap.{insert_entry};
 ghost use Rattle.json_order.specs.Members.{put};
-ghost use Rattle.json_order.specs.Held.{pair_of, place_of};
+ghost use Rattle.json_order.specs.inner.Held.{held, pair_of, place_of};
 
+use crate::seed::Seed;
 use crate::word::Key;
 use crate::{JsonPair, JsonTree};
 use fault_place::{Seq, Text};
 use indexmap::IndexMap;
+use indexmap::map::Entry;
 use std::alloc::{AllocError, Global};
 use std::marker::Model;
 
@@ -20,7 +22,7 @@ struct Held {
 /// The members of an object that is still open, found by their keys.
 #[derive(Drop)]
 pub(crate) struct Members {
-    map: IndexMap<String, Held>,
+    map: IndexMap<String, Held, Seed>,
 }
 
 impl Model for Members {
@@ -28,7 +30,7 @@ impl Model for Members {
     ghost use Rattle.std.specs.Coded.{coded_list};
     ghost use Rattle.json_order.specs.declared.tree.JsonPair.{JsonPair};
     ghost use Rattle.json_order.specs.contracts.tree.JsonPair as pair;
-    ghost use Rattle.json_order.specs.Held.{pairs_of};
+    ghost use Rattle.json_order.specs.inner.Held.{pairs_of};
 
     ghost Value = { List JsonPair };
 
@@ -38,11 +40,11 @@ impl Model for Members {
 }
 
 impl Members {
-    pub(crate) fn new(alloc: Global) -> Members
+    pub(crate) fn new(alloc: Global, seed: Seed) -> Members
         ensures { result ≡ [] }
     {
         Members {
-            map: IndexMap::new(alloc),
+            map: IndexMap::with_hasher(alloc, seed),
         }
     }
 
@@ -50,9 +52,7 @@ impl Members {
     pub(crate) fn put(&mut self, key: Key, key_at: u64, value: JsonTree) -> Result<(), AllocError>
         ensures { OnOk result (self.new ≡ put self.old key key_at value) }
     {
-        let key = key.into_string();
-        let key_at = place_of(&self.map, key.as_str(), key_at);
-        insert(&mut self.map, key, Held { key_at, value })?;
+        insert(&mut self.map, key.into_string(), key_at, value)?;
         Ok(())
     }
 
@@ -60,30 +60,33 @@ impl Members {
         ensures { IfOk result (λ pairs. pairs ≡ self) }
     {
         let Members { map } = self;
-        let pairs = map
-            .into_iter()
-            .map(|(key, held)| pair_of(key, held))
-            .collect(alloc)?;
+        let mut pairs = Vec::new(alloc);
+        pairs.reserve_exact(map.len())?;
+        pairs.extend(map.into_iter().map(|(key, held)| pair_of(key, held)))?;
         Ok(Seq::from_vec(pairs))
     }
 }
 
 /// What the map holds at a key changes in its place.
-fn insert(map: &mut IndexMap<String, Held>, key: String, held: Held) -> Result<(), AllocError>
-    ensures { OnOk result (map.new.entries ≡ insert_entry string_eq map.old.entries key held) }
+fn insert(
+    map: &mut IndexMap<String, Held, Seed>,
+    key: String,
+    key_at: u64,
+    value: JsonTree,
+) -> Result<(), AllocError>
+    ensures { OnOk result (map.new.entries
+        ≡ insert_entry string_eq map.old.entries key (held (place_of map.old.entries key key_at) value)) }
 {
-    map.insert(key, held)?;
-    Ok(())
-}
-
-/// The place of a key that is there, or else the given one.
-fn place_of(map: &IndexMap<String, Held>, key: &str, key_at: u64) -> u64
-    ensures { result ≡ place_of map.now.entries key.now key_at }
-{
-    match map.get(key) {
-        Some(held) => held.key_at,
-        None => key_at,
+    match map.entry(key)? {
+        Entry::Occupied(mut entry) => {
+            let key_at = entry.get().key_at;
+            entry.insert(Held { key_at, value });
+        }
+        Entry::Vacant(entry) => {
+            entry.insert_entry(Held { key_at, value });
+        }
     }
+    Ok(())
 }
 
 fn pair_of(key: String, held: Held) -> JsonPair

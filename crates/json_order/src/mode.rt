@@ -1,5 +1,5 @@
 ghost use Rattle.std.specs.Prelude.{◌≡◌, ◌+◌, ◌*◌};
-ghost use Rattle.json_order.specs.Modes.{first_part, next_part, is_final, first_digit, digit, after_integer, after_fraction, sign, letter_of, letters_after, named, with_digit, tail_behind};
+ghost use Rattle.json_order.specs.inner.Modes.{first_part, next_part, is_final, first_digit, digit, after_integer, after_fraction, sign, letter_of, letters_after, named, with_digit, tail_behind};
 
 use crate::JsonNode;
 

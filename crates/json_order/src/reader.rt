@@ -1,14 +1,14 @@
-ghost use Rattle.std.specs.Prelude.{◌≡◌, ◌∷◌, [], Some, None, OnOk, MatchResult};
-ghost use Rattle.json_order.specs.Frames.{inner_of};
+ghost use Rattle.std.specs.Prelude.{◌≡◌, ◌∷◌, ◌++◌, [], Some, None, IfOk};
+ghost use Rattle.json_order.specs.inner.Frames.{inner_of};
 
 use crate::fault::Stop;
 use crate::frame::{Frame, Inner, Stack};
-use crate::members::Members;
 use crate::mode::{Letters, Mode, Part};
+use crate::seed::Seed;
 use crate::word::{Key, Word};
 use crate::{JsonNode, JsonTree};
 use fault_place::{Seq, Text};
-use std::alloc::Global;
+use std::alloc::{AllocError, Global};
 use std::mem;
 
 /// Reads one JSON text, byte by byte.
@@ -29,9 +29,9 @@ pub(crate) struct Reader {
 }
 
 impl Reader {
-    ghost use Rattle.json_order.specs.Steps.{Goes, fresh, step, finished, tree_at, placed, closed_list, closed_object, spaced, other_at, value_step, key_step, first_item_step, first_key_step, colon_step, after_step, comma_in, name_step, number_step, number_at, name_at, closed_number, opened, Finishes, in_mode, string_at, root_at};
+    ghost use Rattle.json_order.specs.inner.Steps.{Goes, fresh, step, finished, tree_at, placed, closed_list, closed_object, spaced, other_at, value_step, key_step, first_item_step, first_key_step, colon_step, after_step, comma_in, name_step, number_step, number_at, name_at, closed_number, opened, Finishes, in_mode, string_at, root_at};
 
-    pub(crate) fn new(alloc: Global) -> Reader
+    pub(crate) fn new(alloc: Global, seed: Seed) -> Reader
         ensures { result ≡ fresh }
     {
         Reader {
@@ -40,13 +40,13 @@ impl Reader {
             word: Word::new(alloc),
             high: None,
             is_key: false,
-            stack: Stack::new(alloc),
+            stack: Stack::new(alloc, seed),
             root: None,
         }
     }
 
     /// Takes the next byte, at its offset.
-    #[tactic(auto, unfolding(crate::specs::Steps::step))]
+    #[tactic(auto, unfolding(crate::specs::inner::Steps::step))]
     pub(crate) fn step(&mut self, alloc: Global, at: u64, byte: u8) -> Result<(), Stop>
         ensures { Goes result self.new (step self.old at byte) }
     {
@@ -67,7 +67,7 @@ impl Reader {
     }
 
     /// The value of the text, where it ends here.
-    #[tactic(auto, unfolding(crate::specs::Steps::finished))]
+    #[tactic(auto, unfolding(crate::specs::inner::Steps::finished))]
     pub(crate) fn finish(self, alloc: Global) -> Result<JsonTree, Stop>
         ensures { Finishes result (finished self) }
     {
@@ -113,7 +113,7 @@ impl Reader {
                 self.open(Frame::List { at, items }, Mode::FirstItem)
             }
             b'{' => {
-                let members = Members::new(alloc);
+                let members = self.stack.no_members(alloc);
                 let key = Key::empty(alloc);
                 let key_at = 0;
                 self.open(
@@ -282,7 +282,7 @@ impl Reader {
     {
         match self.stack.pop() {
             Some(Frame::List { at, items }) => {
-                let node = JsonNode::List(items);
+                let node = JsonNode::List(fitted(items));
                 self.place(alloc, JsonTree { at, node })
             }
             _ => Err(Stop::Wrong),
@@ -308,8 +308,8 @@ impl Reader {
         self.mode = Mode::After;
         match self.stack.pop() {
             None => self.root = Some(value),
-            Some(Frame::List { at, mut items }) => {
-                items.push(value)?;
+            Some(Frame::List { at, items }) => {
+                let items = with(items, value)?;
                 self.stack.push(Frame::List { at, items })?;
             }
             Some(
@@ -332,4 +332,26 @@ impl Reader {
         }
         Ok(())
     }
+}
+
+/// One more member. There is room for one first, then for two, and so on: most lists of a deep text have one.
+fn with(items: Seq<JsonTree>, value: JsonTree) -> Result<Seq<JsonTree>, AllocError>
+    ensures { IfOk result (λ more. more ≡ items ++ value ∷ []) }
+{
+    let mut vec = items.into_vec();
+    let len = vec.len();
+    if len == vec.capacity() {
+        vec.reserve_exact(len.max(1))?;
+    }
+    vec.push(value)?;
+    Ok(Seq::from_vec(vec))
+}
+
+/// The same members, without room for more. Takes no memory.
+fn fitted(items: Seq<JsonTree>) -> Seq<JsonTree>
+    ensures { result ≡ items }
+{
+    let mut vec = items.into_vec();
+    vec.shrink_to_fit();
+    Seq::from_vec(vec)
 }

@@ -2,10 +2,11 @@ ghost use Rattle.std.specs.Prelude.{◌≡◌, ◌+◌, ◌<◌, ◌^◌, List, 
 ghost use Rattle.json_order.specs.declared.tree.JsonTree.{JsonTree};
 ghost use Rattle.json_order.specs.declared.fault.JsonFault.{JsonFault};
 ghost use Rattle.json_order.specs.Answer.{AnswersBy, IsAnswer, IsAnswerFrom};
-ghost use Rattle.json_order.specs.Steps.{run, fresh, end_at};
+ghost use Rattle.json_order.specs.inner.Steps.{run, fresh, end_at};
 
 use crate::fault::Stop;
 use crate::reader::Reader;
+use crate::seed::Seed;
 use crate::{JsonEnd, JsonFault, JsonKind, JsonTree};
 use std::alloc::Global;
 
@@ -23,11 +24,6 @@ pub fn read(alloc: Global, text: &[u8]) -> Result<JsonTree, JsonEnd>
 {
     read_behind_mark(alloc, text)
 }
-
-/// Each text has one answer: one tree, or one fault.
-pub fn one_answer()
-    ensures { (text : List ℕ) (one other : Result JsonTree JsonFault) → IsAnswer text one → IsAnswer text other → one ≡ other }
-{}
 
 fn read_behind_mark(alloc: Global, text: &[u8]) -> Result<JsonTree, JsonEnd>
     ensures { AnswersBy (IsAnswer text.now) result }
@@ -51,7 +47,7 @@ fn run(alloc: Global, start: u64, text: &[u8]) -> Result<JsonTree, JsonEnd>
     requires { start + length text.now < 2 ^ 64 }
     ensures { AnswersBy (λ answer. run 128 fresh start text.now ≡ answer) result }
 {
-    let mut reader = Reader::new(alloc);
+    let mut reader = Reader::new(alloc, Seed::of(text));
     for (index, byte) in text.iter().enumerate() {
         let at = start + index as u64;
         if let Err(stop) = reader.step(alloc, at, *byte) {

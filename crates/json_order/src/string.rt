@@ -13,7 +13,7 @@ use std::mem;
 
 impl Reader {
     ghost use Rattle.std.specs.Prelude.{◌∷◌, [], ◌++◌};
-    ghost use Rattle.json_order.specs.Steps.{Goes, chars_step, unescaped_step, escape_step, hex_step, tail_step, closed_string, close_string_of, string_done, keyed_in, ended, with_bytes, with_unit, lone_unit, unit_after};
+    ghost use Rattle.json_order.specs.inner.Steps.{Goes, chars_step, unescaped_step, escape_step, hex_step, tail_step, closed_string, close_string_of, string_done, keyed_in, ended, with_bytes, with_unit, lone_unit, unit_after};
 
     pub(crate) fn chars(&mut self, alloc: Global, byte: u8) -> Result<(), Stop>
         ensures { Goes result self.new (chars_step self.old byte) }

@@ -1,6 +1,6 @@
 -- A sound state stays sound, and in a quiet one the files with a record are the reached ones.
 use Rattle.std.proofs.Common.{◌≡◌, ◌≢◌, ⊎_elim, ℕ, Bool, List, [], ◌∷◌, Option, Some, None, Result, Ok, Err, refl, sym, ap, ◌∙◌, subst, is_some, nat_eq}
-use Rattle.std.specs.Prelude.{Contains, IsSome, IsTrue, slice_get, slice_set}
+use Rattle.std.specs.Prelude.{◌↔◌, Contains, IsSome, IsTrue, slice_get, slice_set}
 use Rattle.std.specs.List.{AllByRecursion, list_any}
 use Rattle.std.specs.Option.{option_flatten, option_map_or}
 use Rattle.std.proofs.lemmas.Bool.{cases_eq, false≢true}
@@ -8,7 +8,8 @@ use Rattle.std.proofs.lemmas.List.Elements.{All-contains, All-from_recursion}
 use Rattle.std.proofs.lemmas.Option.{none-some}
 use Rattle.graph_types.specs.declared.record.ModRecord.{ModRecord}
 use Rattle.graph_types.specs.Reached.{HoldsAll, IsClosed, IsReached}
-use Rattle.make_core.specs.Core.{Answers, Core, HasExactly, IsAllowed, IsDone, IsOwned, IsQuiet, IsReachable, IsSound, MayClaim, MayPublish, after_event, done_of, entries_of, owner_of, record_of, start, targets_in, targets_of}
+use Rattle.graph_types.specs.Targets.{targets_of}
+use Rattle.make_core.specs.Core.{Answers, Core, HasExactly, IsAllowed, IsDone, IsOwned, IsQuiet, IsReachable, IsSound, MayClaim, MayPublish, after_event, done_of, entries_of, owner_of, planned_record, start, planned_targets}
 use Rattle.make_core.specs.declared.event.Event.{Event}
 use Rattle.make_core.specs.declared.event.Event.TheVariants.{Claim, Publish}
 use Rattle.make_core.specs.declared.plan.CorePlan.{CorePlan}
@@ -42,7 +43,7 @@ claim_keeps plan state worker file may sound =
     ⊎_elim (λ entry. member_held set (entries_of plan) file holds entry)
     (λ target.
     let owned : IsOwned state target.0 = ⊎_elim (λ done. sound.owned target.0 done) (λ own. ap is_some own) target.1 in
-    member_held set (targets_in plan target.0) file (closed target.0 (sound.reached target.0 owned set holds closed)) target.2)
+    member_held set (planned_targets plan target.0) file (closed target.0 (sound.reached target.0 owned set holds closed)) target.2)
     may.named
     in
     record {
@@ -65,7 +66,7 @@ publish_keeps plan state worker file rec may sound =
           ⊎_elim (λ e. subst (λ k. IsOwned state k) (sym e) (ap is_some may.owned)) (λ n. sound.owned f (sym (ap is_some (there f n)) ∙ done)) (cases_eq f file);
       planned = λ f other e.
           ⊎_elim
-          (λ same. subst (λ k. record_of plan k ≡ Some other) (sym same) (may.planned ∙ (sym (ap option_flatten here) ∙ (ap (done_of after) (sym same) ∙ e))))
+          (λ same. subst (λ k. planned_record plan k ≡ Some other) (sym same) (may.planned ∙ (sym (ap option_flatten here) ∙ (ap (done_of after) (sym same) ∙ e))))
           (λ n. sound.planned f other (sym (there f n) ∙ e))
           (cases_eq f file);
       reached = sound.reached;
@@ -89,28 +90,37 @@ sound_start plan files workers = record {
 
 -- ---- a quiet state
 
-module _ (plan : CorePlan) (state : Core) (members : List ℕ) (sound : IsSound plan state) (reached : IsReached (targets_in plan) (entries_of plan) members) where
+-- what is owned holds the entries and is closed
+owned_is_closed : (plan : CorePlan) (state : Core) → IsSound plan state → IsQuiet plan state → IsClosed (planned_targets plan) (λ f. is_some (owner_of state f))
+owned_is_closed plan state sound quiet f owned =
+    let rec = some_value (done_of state f) (quiet.finished f owned) in
+    subst (λ o. HoldsAll (λ file. is_some (owner_of state file)) (option_map_or targets_of o [])) (sym (sound.planned f rec.0 rec.1)) (quiet.targets f rec.0 rec.1)
+
+module _ (plan : CorePlan) (state : Core) (members : List ℕ) (sound : IsSound plan state) (reached : IsReached (planned_targets plan) (entries_of plan) members) where
   -- what is reached is in every closed set that holds the entries, the members among them
   done_member : (file : ℕ) → IsDone state file → Contains members file
   done_member file done =
       let set : ℕ → Bool = λ f. list_any (nat_eq f) members in
       let has : (f : ℕ) → Contains members f → IsTrue (set f) = λ f found. (list_any-Contains members f (set f) refl).1 found in
       let told : (f : ℕ) → IsTrue (set f) → Contains members f = λ f t. (list_any-Contains members f (set f) refl).0 t in
-      told file (sound.reached file (sound.owned file done) set (all_weaker has (entries_of plan) reached.holds) (λ f t. all_weaker has (targets_in plan f) (reached.closed f (told f t))))
+      told file (sound.reached file (sound.owned file done) set (all_weaker has (entries_of plan) reached.holds) (λ f t. all_weaker has (planned_targets plan f) (reached.closed f (told f t))))
 
   -- the owned files are such a set
   member_done : IsQuiet plan state → (file : ℕ) → Contains members file → IsDone state file
   member_done quiet file found =
       let set : ℕ → Bool = λ f. is_some (owner_of state f) in
-      let closed : IsClosed (targets_in plan) set = λ f owned.
-      let rec = some_value (done_of state f) (quiet.finished f owned) in
-      subst (λ o. HoldsAll set (option_map_or targets_of o [])) (sym (sound.planned f rec.0 rec.1)) (quiet.targets f rec.0 rec.1)
-      in
+      let closed = owned_is_closed plan state sound quiet in
       quiet.finished file (all_held (IsOwned state) members file (reached.least set quiet.entries closed) found)
 
-pub whole_when_quiet : (plan : CorePlan) (state : Core) (members : List ℕ) → IsSound plan state → IsQuiet plan state → IsReached (targets_in plan) (entries_of plan) members
+pub whole_when_quiet : (plan : CorePlan) (state : Core) (members : List ℕ) → IsSound plan state → IsQuiet plan state → IsReached (planned_targets plan) (entries_of plan) members
     → HasExactly plan state members
 whole_when_quiet plan state members sound quiet reached = record {
   exact = λ file. (done_member plan state members sound reached file, member_done plan state members sound reached quiet file);
   planned = sound.planned;
 }
+
+pub done_when_quiet : (plan : CorePlan) (state : Core) → IsSound plan state → IsQuiet plan state → (file : ℕ) → IsDone state file ↔ IsReachable plan file
+done_when_quiet plan state sound quiet file = (
+  λ done. sound.reached file (sound.owned file done),
+  λ reached. quiet.finished file (reached (λ f. is_some (owner_of state f)) quiet.entries (owned_is_closed plan state sound quiet)),
+)

@@ -5,7 +5,8 @@ use Rattle.std.specs.Option.{option_map_or}
 use Rattle.std.proofs.lemmas.Bool.{and_from, and_parts}
 use Rattle.std.proofs.lemmas.Option.{none-some, same_Some}
 use Rattle.graph_types.specs.declared.record.ModRecord.{ModRecord}
-use Rattle.make_core.specs.Core.{Core, IsOwned, done_of, entries_of, names_owned, targets_of, value_of}
+use Rattle.graph_types.specs.Targets.{targets_of}
+use Rattle.make_core.specs.Core.{Core, IsOwned, done_of, entries_of, names_owned, value_of}
 use Rattle.make_core.specs.declared.plan.CorePlan.{CorePlan}
 use Rattle.make_core.proofs.Members.{list_all-AllByRecursion}
 

@@ -1,10 +1,11 @@
 -- The core of the make phase (this project): a machine in which workers claim files and publish their records, one event
 -- at a time. Files and workers are named by their numbers.
-use Rattle.std.specs.Prelude.{◌≡◌, ℕ, ◌<◌, ◌⊎◌, ◌↔◌, Bool, List, [], ◌∷◌, map, filter_map, replicate, take, slice_get, slice_set, Contains, Option, Some, None, option_map, is_some, IsSome, IsSomeAnd, IsTrue, Result, MatchResult, false, ◌==◌}
+use Rattle.std.specs.Prelude.{◌≡◌, ℕ, ◌<◌, ◌⊎◌, ◌↔◌, Bool, List, [], ◌∷◌, map, replicate, take, slice_get, slice_set, Contains, Option, Some, None, is_some, IsSome, IsSomeAnd, IsTrue, Result, MatchResult, false, ◌==◌}
 use Rattle.std.specs.List.{AllByRecursion, list_all}
 use Rattle.std.specs.Option.{option_map_or, option_flatten}
 use Rattle.graph_types.specs.declared.record.ModRecord.{ModRecord}
 use Rattle.graph_types.specs.Reached.{HoldsAll, IsClosed}
+use Rattle.graph_types.specs.Targets.{targets_of}
 use Rattle.make_core.specs.declared.event.Event.{Event}
 use Rattle.make_core.specs.declared.event.Event.TheVariants.{Claim, Publish}
 use Rattle.make_core.specs.declared.plan.CorePlan.{CorePlan}
@@ -13,24 +14,20 @@ use Rattle.make_core.specs.declared.run_end.RunEnd.TheVariants.{NotAllowed, NoMe
 
 -- ---- the plan
 
--- the files that a record's items name, of every kind
-abbrev pub targets_of : ModRecord → List ℕ
-targets_of rec = filter_map (λ item. option_map (λ file. file.0) item.target) rec.items
-
 abbrev pub entries_of : CorePlan → List ℕ
 entries_of plan = map (λ file. file.0) plan.entries
 
 -- the plan's record of a file
-abbrev pub record_of : CorePlan → ℕ → Option ModRecord
-record_of plan file = slice_get plan.recs file
+abbrev pub planned_record : CorePlan → ℕ → Option ModRecord
+planned_record plan file = slice_get plan.recs file
 
 -- the files that the plan's record of a file names
-abbrev pub targets_in : CorePlan → ℕ → List ℕ
-targets_in plan file = option_map_or targets_of (record_of plan file) []
+abbrev pub planned_targets : CorePlan → ℕ → List ℕ
+planned_targets plan file = option_map_or targets_of (planned_record plan file) []
 
 -- reached: a member of the least closed set that holds the entry files, so of each such set
 abbrev pub IsReachable : CorePlan → ℕ → Type 0
-IsReachable plan file = (set : ℕ → Bool) → HoldsAll set (entries_of plan) → IsClosed (targets_in plan) set → IsTrue (set file)
+IsReachable plan file = (set : ℕ → Bool) → HoldsAll set (entries_of plan) → IsClosed (planned_targets plan) set → IsTrue (set file)
 
 -- ---- the state
 
@@ -70,7 +67,7 @@ start files workers = record { workers = workers; owner = replicate files None; 
 -- the file is a target of the plan's record of a file that is done or that the worker owns
 abbrev pub IsOpenTarget : CorePlan → Core → ℕ → ℕ → Type 0
 IsOpenTarget plan state worker file =
-    (from : ℕ) × (IsDone state from ⊎ (owner_of state from ≡ Some worker)) × Contains (targets_in plan from) file
+    (from : ℕ) × (IsDone state from ⊎ (owner_of state from ≡ Some worker)) × Contains (planned_targets plan from) file
 
 -- A worker of the state may claim a file of the state that has no owner, where it is an entry file or such a target.
 pub record MayClaim (plan : CorePlan) (state : Core) (worker file : ℕ) : Type 0 where
@@ -82,7 +79,7 @@ pub record MayClaim (plan : CorePlan) (state : Core) (worker file : ℕ) : Type 
 pub record MayPublish (plan : CorePlan) (state : Core) (worker file : ℕ) (rec : ModRecord) : Type 0 where
   pub owned : owner_of state file ≡ Some worker
   pub not_done : slice_get state.done file ≡ Some None
-  pub planned : record_of plan file ≡ Some rec
+  pub planned : planned_record plan file ≡ Some rec
 
 abbrev pub IsAllowed : CorePlan → Core → Event → Type 0
 IsAllowed plan state (Claim worker file) = MayClaim plan state worker file.0
@@ -133,7 +130,7 @@ publishes file (Publish worker published rec) = published.0 == file
 -- each done file is owned and has the plan's record, and each owned file is reached
 pub record IsSound (plan : CorePlan) (state : Core) : Type 0 where
   pub owned : (file : ℕ) → IsDone state file → IsOwned state file
-  pub planned : (file : ℕ) (rec : ModRecord) → done_of state file ≡ Some rec → record_of plan file ≡ Some rec
+  pub planned : (file : ℕ) (rec : ModRecord) → done_of state file ≡ Some rec → planned_record plan file ≡ Some rec
   pub reached : (file : ℕ) → IsOwned state file → IsReachable plan file
 
 -- every entry file is owned, every owned file is done, and every target of a done record is owned
@@ -145,4 +142,4 @@ pub record IsQuiet (plan : CorePlan) (state : Core) : Type 0 where
 -- a file has a record exactly where it is a member, and then it is the plan's
 pub record HasExactly (plan : CorePlan) (state : Core) (members : List ℕ) : Type 0 where
   pub exact : (file : ℕ) → IsDone state file ↔ Contains members file
-  pub planned : (file : ℕ) (rec : ModRecord) → done_of state file ≡ Some rec → record_of plan file ≡ Some rec
+  pub planned : (file : ℕ) (rec : ModRecord) → done_of state file ≡ Some rec → planned_record plan file ≡ Some rec

@@ -1,7 +1,7 @@
 //! What holds of every list of events: calls that do nothing and whose clauses are the laws.
-ghost use Rattle.std.specs.Prelude.{◌≡◌, ◌≤◌, ℕ, List, count_by};
+ghost use Rattle.std.specs.Prelude.{◌≡◌, ◌≤◌, ◌↔◌, ℕ, List, count_by};
 ghost use Rattle.graph_types.specs.Reached.{IsReached};
-ghost use Rattle.make_core.specs.Core.{AreAccepted, Core, HasExactly, IsFirstRefused, IsQuiet, IsSound, after_events, claims, entries_of, publishes, start, targets_in};
+ghost use Rattle.make_core.specs.Core.{AreAccepted, Core, HasExactly, IsDone, IsFirstRefused, IsQuiet, IsReachable, IsSound, after_events, claims, entries_of, publishes, start, planned_targets};
 ghost use Rattle.make_core.specs.declared.event.Event.{Event};
 ghost use Rattle.make_core.specs.declared.plan.CorePlan.{CorePlan};
 
@@ -16,7 +16,13 @@ pub fn every_run_is_sound()
 pub fn quiet_is_whole()
     ensures { (plan : CorePlan) (state : Core) (members : List ℕ)
         → IsSound plan state → IsQuiet plan state
-        → IsReached (targets_in plan) (entries_of plan) members → HasExactly plan state members }
+        → IsReached (planned_targets plan) (entries_of plan) members → HasExactly plan state members }
+{}
+
+/// In a quiet sound state the done files are exactly those that are reached.
+pub fn quiet_is_reached()
+    ensures { (plan : CorePlan) (state : Core) → IsSound plan state → IsQuiet plan state
+        → (file : ℕ) → IsDone state file ↔ IsReachable plan file }
 {}
 
 /// No file is claimed twice.

@@ -11,7 +11,7 @@ pub struct CorePlan {
 impl CorePlan {
     ghost use Rattle.std.specs.Prelude.{◌≡◌, ◌==◌, ◌↔◌, Some, IsTrue};
     ghost use Rattle.std.specs.List.{list_any};
-    ghost use Rattle.make_core.specs.Core.{entries_of, record_of};
+    ghost use Rattle.make_core.specs.Core.{entries_of, planned_record};
 
     pub(crate) fn is_entry(&self, file: FileId) -> bool
         ensures { result ≡ list_any (λ entry. file.0 == entry) (entries_of self.now) }
@@ -25,7 +25,7 @@ impl CorePlan {
 
     /// Whether the record is the plan's of the file.
     pub(crate) fn has_record(&self, file: FileId, rec: &ModRecord) -> bool
-        ensures { IsTrue result ↔ (record_of self.now file.0 ≡ Some rec.now) }
+        ensures { IsTrue result ↔ (planned_record self.now file.0 ≡ Some rec.now) }
     {
         match self.recs.as_slice().get(file.0 as usize) {
             Some(planned) => planned == rec,

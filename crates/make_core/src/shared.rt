@@ -1,8 +1,7 @@
 //! What threads share may be sent to any of them and read by all at once.
 
 use crate::{CorePlan, CoreState, Event};
-
-fn is_shared<T: Send + Sync>(_value: &T) {}
+use pack_util::is_shared;
 
 fn are_shared(plan: &CorePlan, event: &Event, state: &CoreState) {
     is_shared(plan);

@@ -1,7 +1,7 @@
 //! What a record's items name.
 ghost use Rattle.std.specs.Prelude.{◌≡◌, ◌==◌};
 ghost use Rattle.std.specs.List.{list_any};
-ghost use Rattle.make_core.specs.Core.{targets_of};
+ghost use Rattle.graph_types.specs.Targets.{targets_of};
 
 use fault_place::FileId;
 use graph_types::ModRecord;

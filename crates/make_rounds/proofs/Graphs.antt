@@ -6,6 +6,7 @@ use Rattle.std.specs.List.{AllByRecursion}
 use Rattle.std.specs.Prelude.{Contains, IsTrue, IsPermutation, Result, Ok, Err, filter_map, unwrap_or}
 use Rattle.fault_place.specs.declared.fault.Fault.{Fault}
 use Rattle.fault_place.specs.declared.number.FileId.{FileId}
+use Rattle.fault_place.specs.declared.limit.TheConstants.{MAX_TEXT}
 use Rattle.graph_types.specs.Modules.{Graph, file_id, files_of, module_of}
 use Rattle.graph_types.specs.Reached.{IsReached}
 use Rattle.graph_types.specs.declared.record.ModRecord.{ModRecord}
@@ -14,10 +15,11 @@ use Rattle.outside.specs.Tree.{Tree, bytes_at}
 use Rattle.outside.specs.declared.entry.ReadGot.{ReadGot}
 use Rattle.outside.specs.declared.entry.ReadGot.TheVariants.{Whole, TooLong}
 use Rattle.tree_listing.specs.Listing.{lengths_of, path_at, length_at}
-use Rattle.make_rounds.specs.Gathered.{AreGathered, IsGraphFrom, numbers_of}
-use Rattle.make_rounds.specs.Graph.{IsGraphOf, targets_in}
-use Rattle.make_rounds.specs.Record.{max_text, read_record, record_from, record_of}
-use Rattle.make_rounds.specs.Statements.{Import, imports_of}
+use Rattle.make_rounds.specs.inner.Gathered.{AreGathered, IsGraphFrom, first_files, numbers_of}
+use Rattle.graph_types.specs.Graphs.{IsGraphOf, roots_of}
+use Rattle.graph_types.specs.Targets.{targets_by}
+use Rattle.make_rounds.specs.Record.{read_record, record_from, record_of}
+use Rattle.make_rounds.specs.today.Statements.{Import, imports_of}
 use Rattle.make_rounds.proofs.Findings.{all-kept}
 
 file_by : (files : List (List ℕ × ℕ)) (file : FileId) (path text : List ℕ) (read : Result (List Import) ℕ) → (read_record files file path text read).file ≡ file
@@ -32,7 +34,7 @@ file_is : (tree : Tree) (number : ℕ) → (record_of tree number).file ≡ file
 file_is tree number =
     let files = lengths_of tree in
     let path = path_at files number in
-    file_from files (file_id number) path (length_at files number) (read_got max_text (unwrap_or (bytes_at tree path) []))
+    file_from files (file_id number) path (length_at files number) (read_got MAX_TEXT (unwrap_or (bytes_at tree path) []))
 
 numbers_are : (tree : Tree) (members : List ℕ) → files_of (map (record_of tree) members) ≡ members
 numbers_are tree [] = refl
@@ -60,7 +62,12 @@ IsReached-permutation targets_of first xs ys same reached = record {
       recursion_from_All (λ file. IsTrue (set file)) ys (All-permutation (λ file. IsTrue (set file)) xs ys same (All-from_recursion (λ file. IsTrue (set file)) xs (reached.least set all closed)));
 }
 
-module _ (tree : Tree) (entry : List FileId) (faults : List Fault) (records : List ModRecord) (graph : Graph) (gathered : AreGathered tree (numbers_of entry) records) (from : IsGraphFrom records entry faults graph) where
+-- each entry's modules are those of its numbers
+roots_are : (records : List ModRecord) (entries : List (List FileId)) → map (filter_map (module_of records)) entries ≡ map (roots_of records) (map numbers_of entries)
+roots_are records [] = refl
+roots_are records (entry ∷ entries) = λ i. filter_map (module_of records) (sym (same_files entry) i) ∷ roots_are records entries i
+
+module _ (tree : Tree) (entries : List (List FileId)) (faults : List Fault) (records : List ModRecord) (graph : Graph) (gathered : AreGathered tree (first_files entries) records) (from : IsGraphFrom records entries faults graph) where
   members_are : files_of records ≡ gathered.members
   members_are = ap files_of gathered.records_are ∙ numbers_are tree gathered.members
 
@@ -72,12 +79,12 @@ module _ (tree : Tree) (entry : List FileId) (faults : List Fault) (records : Li
       recursion_from_All _ graph.records (All-permutation (λ rec. rec ≡ record_of tree rec.file.0) records graph.records from.same
       (All-from_recursion _ records (subst (AllByRecursion (λ rec. rec ≡ record_of tree rec.file.0)) (sym gathered.records_are) (each_is tree gathered.members))))
 
-  pub graph_is : IsGraphOf tree (numbers_of entry) faults graph
+  pub graph_is : IsGraphOf (record_of tree) (map numbers_of entries) faults graph
   graph_is = record {
     members = files_of graph.records;
     ascending = from.ascending;
-    reached = IsReached-permutation (targets_in tree) (numbers_of entry) gathered.members (files_of graph.records) shuffled gathered.reached;
+    reached = IsReached-permutation (targets_by (record_of tree)) (first_files entries) gathered.members (files_of graph.records) shuffled gathered.reached;
     records_are = all_are tree graph.records each;
-    roots_are = from.roots_are ∙ ap (λ files. filter_map (module_of graph.records) files ∷ []) (sym (same_files entry));
+    roots_are = from.roots_are ∙ roots_are graph.records entries;
     faults_are = from.faults_are;
   }

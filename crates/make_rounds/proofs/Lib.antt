@@ -1,5 +1,6 @@
-pub mod Blocks
 pub mod Findings
+pub mod Fits
+pub mod Gains
 pub mod Graphs
 pub mod Lists
 pub mod Marks

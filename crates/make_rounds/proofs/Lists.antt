@@ -1,9 +1,11 @@
 -- Facts of lists, by cases on the list, and one more member of a list.
-use Rattle.std.proofs.Common.{◌≡◌, ℕ, zero, suc, ◌+◌, ◌<◌, Bool, true, List, [], ◌∷◌, ◌++◌, length, get_or, take, refl, ap, ◌∙◌, arith}
+use Rattle.std.proofs.Common.{◌≡◌, ℕ, zero, suc, ◌+◌, ◌<◌, Bool, true, List, [], ◌∷◌, ◌++◌, length, get_or, take, append-nil, append_assoc, refl, sym, ap, ◌∙◌, arith}
 use Rattle.std.proofs.lemmas.Bool.{and_parts}
 use Rattle.std.proofs.lemmas.List.{take_more}
 use Rattle.std.proofs.lemmas.List.Elements.{filter_map-append}
 use Rattle.std.specs.List.{AllByRecursion, list_all}
+use Rattle.fault_place.specs.declared.number.FileId.{FileId}
+use Rattle.make_rounds.specs.inner.Gathered.{first_files, numbers_of}
 use Rattle.std.specs.Prelude.{Option, Some, None, option_to_list, filter_map}
 
 pub all-push : {X : Type 0} (P : X → Type 0) (xs : List X) (x : X) → AllByRecursion P xs → P x → AllByRecursion P (xs ++ x ∷ [])
@@ -30,3 +32,12 @@ pub passes-at : {X : Type 0} (p : X → Bool) (xs : List X) (i : ℕ) (d : X) �
 passes-at p [] i d within all = absurd (omega arith)
 passes-at p (x ∷ xs) zero d within all = (and_parts (p x) (list_all p xs) all).0
 passes-at p (x ∷ xs) (suc i) d within all = passes-at p xs i d (omega arith) (and_parts (p x) (list_all p xs) all).1
+
+first_files-push : (entries : List (List FileId)) (entry : List FileId) → first_files (entries ++ entry ∷ []) ≡ first_files entries ++ numbers_of entry
+first_files-push [] entry = append-nil (numbers_of entry)
+first_files-push (first ∷ entries) entry =
+    ap (λ rest. numbers_of first ++ rest) (first_files-push entries entry) ∙ sym (append_assoc (numbers_of first) (first_files entries) (numbers_of entry))
+
+-- the files of one more entry
+pub first_files-more : (entries : List (List FileId)) (i : ℕ) (d : List FileId) → i < length entries → first_files (take (i + 1) entries) ≡ first_files (take i entries) ++ numbers_of (get_or entries i d)
+first_files-more entries i d within = ap first_files (take_more entries i d within) ∙ first_files-push (take i entries) (get_or entries i d)

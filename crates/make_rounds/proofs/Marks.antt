@@ -9,7 +9,7 @@ use Rattle.std.proofs.lemmas.Map.Keys.{IsDistinct-push}
 use Rattle.std.specs.List.{list_any, AllByRecursion, IsDistinct}
 use Rattle.std.specs.Prelude.{nat_eq, count_by}
 use Rattle.make_rounds.proofs.Lists.{all-push}
-use Rattle.make_rounds.specs.Found.{IsMarked}
+use Rattle.make_rounds.specs.inner.Found.{IsMarked}
 
 none : (of : ℕ) → of * 0 ≡ 0
 none of = omega arith

@@ -1,5 +1,5 @@
 -- What one pending file after another leaves.
-use Rattle.std.proofs.Common.{◌≡◌, ℕ, ◌+◌, ◌<◌, ◌≤◌, Bool, List, [], ◌∷◌, ◌++◌, append_assoc, map, length, length-append, get_or, take, refl, sym, ap, subst, ◌∙◌, arith}
+use Rattle.std.proofs.Common.{◌≡◌, ℕ, ◌+◌, ◌<◌, ◌≤◌, Bool, List, [], ◌∷◌, ◌++◌, append-nil, map, length, length-append, get_or, take, refl, sym, ap, subst, ◌∙◌, arith}
 use Rattle.std.proofs.lemmas.List.{take_all, take_more, take-append-le, map-append}
 use Rattle.std.proofs.lemmas.List.Elements.{All-contains, All-from_recursion}
 use Rattle.std.specs.List.{AllByRecursion, IsDistinct}
@@ -9,18 +9,21 @@ use Rattle.graph_types.specs.declared.record.ModRecord.{ModRecord}
 use Rattle.outside.specs.Tree.{Tree, bytes_at}
 use Rattle.outside.specs.declared.entry.ReadGot.{ReadGot}
 use Rattle.outside.specs.declared.entry.ReadGot.TheVariants.{Whole, TooLong}
-use Rattle.outside.specs.declared.entry.Why.{Why}
 use Rattle.fault_place.specs.declared.number.FileId.{FileId}
+use Rattle.fault_place.specs.declared.limit.TheConstants.{MAX_TEXT}
 use Rattle.graph_types.specs.Modules.{file_id}
+use Rattle.graph_types.specs.Targets.{targets_by, targets_of}
+use Rattle.outside.specs.Logs.{Gains}
+use Rattle.outside.specs.Views.{ReaderView}
+use Rattle.make_rounds.proofs.Gains.{gains_more}
 use Rattle.outside.specs.Reads.{read_of as read_got}
 use Rattle.tree_listing.specs.Listing.{lengths_of, path_at, length_at}
-use Rattle.make_rounds.specs.Found.{with_numbers}
-use Rattle.make_rounds.specs.Gathered.{AreGathered}
-use Rattle.outside.specs.declared.outside_end.OutsideEnd.{OutsideEnd}
-use Rattle.make_rounds.specs.Graph.{ReadsOnce, targets_in}
-use Rattle.make_rounds.specs.Reads.{file_read, read_of}
-use Rattle.make_rounds.specs.Record.{max_text, record_of, record_from, read_record, targets_of}
-use Rattle.make_rounds.specs.Statements.{Import, imports_of}
+use Rattle.make_rounds.specs.inner.Found.{with_numbers}
+use Rattle.make_rounds.specs.inner.Gathered.{AreGathered}
+use Rattle.make_rounds.specs.Graph.{ReadsReached}
+use Rattle.make_rounds.specs.Reads.{ReadsPaths, file_path}
+use Rattle.make_rounds.specs.Record.{record_of, record_from, read_record}
+use Rattle.make_rounds.specs.today.Statements.{Import, imports_of}
 use Rattle.make_rounds.proofs.Findings.{grows, held, kept, within, all-kept}
 use Rattle.make_rounds.proofs.Lists.{all-push, all-at}
 use Rattle.make_rounds.proofs.Orders.{all-take, distinct-take}
@@ -29,8 +32,8 @@ use Rattle.make_rounds.proofs.Orders.{all-take, distinct-take}
 pub record AreMade (tree : Tree) (entry found : List ℕ) (records : List ModRecord) : Type 0 where
   pub records_are : records ≡ map (record_of tree) (take (length records) found)
   pub holds : AllByRecursion (Contains found) entry
-  pub closed : AllByRecursion (λ file. AllByRecursion (Contains found) (targets_in tree file)) (take (length records) found)
-  pub least : (set : ℕ → Bool) → HoldsAll set entry → IsClosed (targets_in tree) set → HoldsAll set found
+  pub closed : AllByRecursion (λ file. AllByRecursion (Contains found) (targets_by (record_of tree) file)) (take (length records) found)
+  pub least : (set : ℕ → Bool) → HoldsAll set entry → IsClosed (targets_by (record_of tree)) set → HoldsAll set found
 
 module _ (tree : Tree) (entry : List ℕ) where
   pub made_none : AreMade tree entry (with_numbers [] entry) []
@@ -52,16 +55,16 @@ module _ (tree : Tree) (entry : List ℕ) where
       let front : take (count + 1) new ≡ take count found ++ file ∷ [] =
       ap (take (count + 1)) growth.1 ∙ take-append-le (count + 1) found growth.0 fits ∙ take_more found count 0 pending in
       let front' : take (length (records ++ rec ∷ [])) new ≡ take count found ++ file ∷ [] = ap (λ n. take n new) longer ∙ front in
-      let named : targets_in tree file ≡ targets_of rec = ap targets_of (sym is) in
+      let named : targets_by (record_of tree) file ≡ targets_of rec = ap targets_of (sym is) in
       record {
         records_are =
             ap (λ front. front ++ rec ∷ []) made.records_are ∙ ap (λ last. map (record_of tree) (take count found) ++ last ∷ []) is
             ∙ sym (map-append (record_of tree) (take count found) (file ∷ [])) ∙ ap (map (record_of tree)) (sym front');
         holds = all-kept (Contains found) (Contains new) (kept found (targets_of rec)) entry made.holds;
-        closed = subst (AllByRecursion (λ one. AllByRecursion (Contains new) (targets_in tree one))) (sym front')
-            (all-push (λ one. AllByRecursion (Contains new) (targets_in tree one)) (take count found) file
-            (all-kept (λ one. AllByRecursion (Contains found) (targets_in tree one)) (λ one. AllByRecursion (Contains new) (targets_in tree one))
-            (λ (one : ℕ) all. all-kept (Contains found) (Contains new) (kept found (targets_of rec)) (targets_in tree one) all) (take count found) made.closed)
+        closed = subst (AllByRecursion (λ one. AllByRecursion (Contains new) (targets_by (record_of tree) one))) (sym front')
+            (all-push (λ one. AllByRecursion (Contains new) (targets_by (record_of tree) one)) (take count found) file
+            (all-kept (λ one. AllByRecursion (Contains found) (targets_by (record_of tree) one)) (λ one. AllByRecursion (Contains new) (targets_by (record_of tree) one))
+            (λ (one : ℕ) all. all-kept (Contains found) (Contains new) (kept found (targets_of rec)) (targets_by (record_of tree) one) all) (take count found) made.closed)
             (subst (AllByRecursion (Contains new)) (sym named) (held found (targets_of rec))));
         least = λ set all closed.
             let each = made.least set all closed in
@@ -79,8 +82,8 @@ module _ (tree : Tree) (entry : List ℕ) where
         reached = record {
           holds = made.holds;
           closed = λ file there.
-              All-contains (λ one. AllByRecursion (Contains found) (targets_in tree one)) found file
-              (All-from_recursion (λ one. AllByRecursion (Contains found) (targets_in tree one)) found (subst (AllByRecursion (λ one. AllByRecursion (Contains found) (targets_in tree one))) whole made.closed))
+              All-contains (λ one. AllByRecursion (Contains found) (targets_by (record_of tree) one)) found file
+              (All-from_recursion (λ one. AllByRecursion (Contains found) (targets_by (record_of tree) one)) found (subst (AllByRecursion (λ one. AllByRecursion (Contains found) (targets_by (record_of tree) one))) whole made.closed))
               there;
           least = made.least;
         };
@@ -98,24 +101,41 @@ path_is : (tree : Tree) (number : ℕ) → (record_of tree number).path ≡ path
 path_is tree number =
     let files = lengths_of tree in
     let path = path_at files number in
-    path_from files (file_id number) path (length_at files number) (read_got max_text (unwrap_or (bytes_at tree path) []))
+    path_from files (file_id number) path (length_at files number) (read_got MAX_TEXT (unwrap_or (bytes_at tree path) []))
 
--- the reads of the first files are those of their records
-pub reads_of : (tree : Tree) (files : List ℕ) → map (λ (rec : ModRecord). read_of rec.path) (map (record_of tree) files) ≡ map (file_read tree) files
-reads_of tree [] = refl
-reads_of tree (file ∷ files) = λ i. read_of (path_is tree file i) ∷ reads_of tree files i
+-- the paths of the first files are those of their records
+pub paths_of : (tree : Tree) (files : List ℕ) → map (λ (rec : ModRecord). rec.path) (map (record_of tree) files) ≡ map (file_path tree) files
+paths_of tree [] = refl
+paths_of tree (file ∷ files) = λ i. path_is tree file i ∷ paths_of tree files i
 
-pub reads_are : (tree : Tree) (entry found : List ℕ) (records : List ModRecord) → AreMade tree entry found records → map (file_read tree) (take (length records) found) ≡ map (λ (rec : ModRecord). read_of rec.path) records
-reads_are tree entry found records made = sym (ap (map (λ (rec : ModRecord). read_of rec.path)) made.records_are ∙ reads_of tree (take (length records) found))
+pub paths_are : (tree : Tree) (entry found : List ℕ) (records : List ModRecord) → AreMade tree entry found records → map (file_path tree) (take (length records) found) ≡ map (λ (rec : ModRecord). rec.path) records
+paths_are tree entry found records made = sym (ap (map (λ (rec : ModRecord). rec.path)) made.records_are ∙ paths_of tree (take (length records) found))
+
+-- the reads of the first files
+abbrev pub ReadsFirst : Tree → List ℕ → ℕ → ReaderView → ReaderView → Type 0
+ReadsFirst tree found count start now = Gains start now (ReadsPaths (map (file_path tree) (take count found)))
 
 -- one more read
-pub read_more : (tree : Tree) (found : List ℕ) (count : ℕ) (before start now : List (List ℕ × Why)) → count < length found → before ≡ start ++ map (file_read tree) (take count found) → now ≡ before ++ file_read tree (get_or found count 0) ∷ [] → now ≡ start ++ map (file_read tree) (take (count + 1) found)
-read_more tree found count before start now pending was is =
-    is ∙ ap (λ log. log ++ file_read tree (get_or found count 0) ∷ []) was
-    ∙ append_assoc start (map (file_read tree) (take count found)) (file_read tree (get_or found count 0) ∷ [])
-    ∙ ap (λ reads. start ++ reads) (sym (ap (map (file_read tree)) (take_more found count 0 pending) ∙ map-append (file_read tree) (take count found) (get_or found count 0 ∷ [])))
+pub read_more : (tree : Tree) (found : List ℕ) (count : ℕ) (start before now : ReaderView) → count < length found → ReadsFirst tree found count start before → Gains before now (ReadsPaths (file_path tree (get_or found count 0) ∷ [])) → ReadsFirst tree found (count + 1) start now
+read_more tree found count start before now pending was is =
+    let paths : map (file_path tree) (take count found) ++ file_path tree (get_or found count 0) ∷ [] ≡ map (file_path tree) (take (count + 1) found) =
+    sym (ap (map (file_path tree)) (take_more found count 0 pending) ∙ map-append (file_path tree) (take count found) (get_or found count 0 ∷ [])) in
+    subst (λ paths. Gains start now (ReadsPaths paths)) paths (gains_more start before now (map (file_path tree) (take count found)) (file_path tree (get_or found count 0) ∷ []) was is)
+
+-- no more reads
+pub read_none : (tree : Tree) (found : List ℕ) (count : ℕ) (start before now : ReaderView) → ReadsFirst tree found count start before → Gains before now (ReadsPaths []) → ReadsFirst tree found count start now
+read_none tree found count start before now was is =
+    subst (λ paths. Gains start now (ReadsPaths paths)) (append-nil (map (file_path tree) (take count found))) (gains_more start before now (map (file_path tree) (take count found)) [] was is)
 
 -- what is read of the first files: none twice, and none that isn't reached
-pub reads_some : (tree : Tree) (entry found : List ℕ) (records : List ModRecord) (count : ℕ) → AreMade tree entry found records → IsDistinct nat_eq found → (end : OutsideEnd) (reads : List (List ℕ × Why)) → reads ≡ map (file_read tree) (take count found) → ReadsOnce tree entry (Err end) reads
-reads_some tree entry found records count made distinct end reads are =
-    (take count found, distinct-take count found distinct, are, λ set all closed. all-take (λ file. IsTrue (set file)) count found (made.least set all closed))
+pub reads_some : (tree : Tree) (entry found : List ℕ) (records : List ModRecord) (count : ℕ) → AreMade tree entry found records → IsDistinct nat_eq found → (start now : ReaderView) → ReadsFirst tree found count start now → Gains start now (ReadsReached tree entry)
+reads_some tree entry found records count made distinct start now gained = (
+  gained.0,
+  gained.1,
+  record {
+    files = take count found;
+    distinct = distinct-take count found distinct;
+    are = gained.2;
+    reached = λ set all closed. all-take (λ file. IsTrue (set file)) count found (made.least set all closed);
+  },
+)

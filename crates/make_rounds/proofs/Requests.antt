@@ -4,7 +4,7 @@ use Rattle.std.specs.List.{list_all}
 use Rattle.std.specs.Str.{IsUtf8, IsAscii}
 use Rattle.std.proofs.lemmas.Bool.Decides.{nat_tests}
 use Rattle.std.proofs.lemmas.Str.{IsUtf8-from_ascii}
-use Rattle.make_rounds.specs.Requests.{is_plain_byte, is_plain}
+use Rattle.make_rounds.specs.today.Requests.{is_plain_byte, is_plain}
 
 plain_is_small : (byte : ℕ) → is_plain_byte byte ≡ true → byte < 128
 plain_is_small byte plain = grind (arith, nat_tests)

@@ -1,6 +1,6 @@
 -- How the statements of a text go on, one after another.
 use Rattle.std.proofs.Common.{◌≡◌, ℕ, zero, suc, ◌+◌, ◌-◌, ◌<◌, List, [], ◌∷◌, ◌++◌, append_assoc, length, drop, Some, None, Result, Ok, Err, refl, sym, ap, ◌∙◌, arith, add-zero}
-use Rattle.make_rounds.specs.Statements.{Import, before, begun, request_of, length_of, imports_from}
+use Rattle.make_rounds.specs.today.Statements.{Import, before, begun, request_of, length_of, imports_from}
 
 pub before-append : (xs ys : List Import) (rest : Result (List Import) ℕ) → before (xs ++ ys) rest ≡ before xs (before ys rest)
 before-append xs ys (Ok rest) = ap Ok (append_assoc xs ys rest)

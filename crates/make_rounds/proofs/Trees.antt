@@ -7,11 +7,11 @@ use Rattle.std.specs.FinMap.Entries.{is_some-find}
 use Rattle.std.specs.Ordering.{nat_cmp, eq_by_cmp}
 use Rattle.std.proofs.lemmas.List.{get_or-map, length-map}
 use Rattle.std.proofs.lemmas.List.Folds.{list_any_at}
+use Rattle.fault_place.specs.declared.limit.TheConstants.{MAX_TEXT}
 use Rattle.make_rounds.proofs.Lists.{passes-at}
 use Rattle.outside.specs.Tree.{Tree, IsTree, bytes_at, files_of}
 use Rattle.outside.specs.Reads.{read_of}
 use Rattle.outside.specs.declared.entry.ReadGot.{ReadGot}
-use Rattle.make_rounds.specs.Record.{max_text}
 use Rattle.path_text.specs.Path.{is_normal, IsNormal}
 use Rattle.tree_listing.specs.Listing.{lengths_of, path_at}
 
@@ -38,7 +38,7 @@ module _ (tree : Tree) (number : ℕ) (within : number < length (lengths_of tree
   normal is = subst IsNormal (sym path_is) (passes-at is_normal (files_of tree) number [] listed is.normal)
 
 -- what a read of a file gave is what the tree's bytes give
-pub read_is : (tree : Tree) (number : ℕ) (path : List ℕ) (got : ReadGot) → path ≡ path_at (lengths_of tree) number → (bytes : List ℕ) × (bytes_at tree path ≡ Some bytes) × (got ≡ read_of max_text bytes) → got ≡ read_of max_text (unwrap_or (bytes_at tree (path_at (lengths_of tree) number)) [])
+pub read_is : (tree : Tree) (number : ℕ) (path : List ℕ) (got : ReadGot) → path ≡ path_at (lengths_of tree) number → (bytes : List ℕ) × (bytes_at tree path ≡ Some bytes) × (got ≡ read_of MAX_TEXT bytes) → got ≡ read_of MAX_TEXT (unwrap_or (bytes_at tree (path_at (lengths_of tree) number)) [])
 read_is tree number path got same read =
     let at : bytes_at tree (path_at (lengths_of tree) number) ≡ Some read.0 = ap (bytes_at tree) (sym same) ∙ read.1 in
-    read.2 ∙ ap (λ found. read_of max_text (unwrap_or found [])) (sym at)
+    read.2 ∙ ap (λ found. read_of MAX_TEXT (unwrap_or found [])) (sym at)

@@ -3,7 +3,10 @@ use Rattle.std.specs.Prelude.{◌≡◌, ℕ, ◌+◌, ◌<◌, List, [], ◌∷
 use Rattle.std.specs.Result.{result_ok}
 use Rattle.fault_place.specs.Place.{place_in}
 use Rattle.fault_place.specs.declared.fault.Fault.{Fault}
+use Rattle.fault_place.specs.declared.fault.FaultKind.{FaultKind}
 use Rattle.fault_place.specs.declared.fault.FaultKind.TheVariants.{Unresolved, NotYet, TooLong}
+use Rattle.fault_place.specs.declared.limit.TheConstants.{MAX_TEXT}
+use Rattle.fault_place.specs.declared.place.Place.{Place}
 use Rattle.fault_place.specs.declared.number.FileId.{FileId}
 use Rattle.graph_types.specs.Modules.{file_id}
 use Rattle.graph_types.specs.declared.edit.Edit.{Edit}
@@ -19,11 +22,7 @@ use Rattle.outside.specs.declared.entry.ReadGot.{ReadGot}
 use Rattle.outside.specs.declared.entry.ReadGot.TheVariants.{Whole, TooLong as Above}
 use Rattle.path_text.specs.Path.{IsNormal, join_of, parent_of}
 use Rattle.tree_listing.specs.Listing.{lengths_of, path_at, length_at, number_at}
-use Rattle.make_rounds.specs.Statements.{Import, imports_of}
-
--- the most bytes of a module's text
-abbrev pub max_text : ℕ
-max_text = 4_194_304
+use Rattle.make_rounds.specs.today.Statements.{Import, imports_of}
 
 -- the file that a request of a module names: the one at the path that the request joins to the module's folder
 abbrev pub target_of : List (List ℕ × ℕ) → List ℕ → List ℕ → Option FileId
@@ -60,47 +59,13 @@ abbrev pub kind_of : List Item → ModKind
 kind_of [] = Plain
 kind_of (item ∷ items) = Es
 
--- the record of a text that is read to its end
-abbrev pub whole_record : FileId → List ℕ → List ℕ → List Item → ModRecord
-whole_record file path text items = record {
-  file = file;
-  path = path;
-  size = length text;
-  kind = kind_of items;
-  text = text;
-  items = items;
-  binds = [];
-  exports = [];
-  stars = [];
-  edits = map edit_of items;
-  notes = [];
-  faults = filter_map (fault_of path text) items;
-}
-
--- the record of a text that isn't read from an offset on
-abbrev pub stopped_record : FileId → List ℕ → List ℕ → ℕ → ModRecord
-stopped_record file path text at = record {
-  file = file;
-  path = path;
-  size = length text;
-  kind = Plain;
-  text = text;
-  items = [];
-  binds = [];
-  exports = [];
-  stars = [];
-  edits = [];
-  notes = [];
-  faults = record { place = place_in path text at; kind = NotYet; detail = [] } ∷ [];
-}
-
--- the record of a text that is too long to be read
-abbrev pub long_record : FileId → List ℕ → ℕ → ModRecord
-long_record file path size = record {
+-- a record of which nothing but the file is known
+abbrev pub bare_record : FileId → List ℕ → ℕ → ModKind → ModRecord
+bare_record file path size kind = record {
   file = file;
   path = path;
   size = size;
-  kind = Bad;
+  kind = kind;
   text = [];
   items = [];
   binds = [];
@@ -108,8 +73,31 @@ long_record file path size = record {
   stars = [];
   edits = [];
   notes = [];
-  faults = record { place = place_in path [] 0; kind = TooLong; detail = [] } ∷ [];
+  faults = [];
 }
+
+abbrev pub fault_at : Place → FaultKind → Fault
+fault_at place kind = record { place = place; kind = kind; detail = [] }
+
+-- the record of a text that is read to its end
+abbrev pub whole_record : FileId → List ℕ → List ℕ → List Item → ModRecord
+whole_record file path text items = record (bare_record file path (length text) (kind_of items)) {
+  text = text;
+  items = items;
+  edits = map edit_of items;
+  faults = filter_map (fault_of path text) items;
+}
+
+-- the record of a text that isn't read from an offset on
+abbrev pub stopped_record : FileId → List ℕ → List ℕ → ℕ → ModRecord
+stopped_record file path text at = record (bare_record file path (length text) Plain) {
+  text = text;
+  faults = fault_at (place_in path text at) NotYet ∷ [];
+}
+
+-- the record of a text that is too long to be read
+abbrev pub long_record : FileId → List ℕ → ℕ → ModRecord
+long_record file path size = record (bare_record file path size Bad) { faults = fault_at (place_in path [] 0) TooLong ∷ [] }
 
 abbrev pub read_record : List (List ℕ × ℕ) → FileId → List ℕ → List ℕ → Result (List Import) ℕ → ModRecord
 read_record files file path text (Ok imports) = whole_record file path text (map (item_of files path) imports)
@@ -122,18 +110,11 @@ record_from files file path size Above = long_record file path size
 
 abbrev pub record_at : Tree → ℕ → List ℕ → ModRecord
 record_at tree number path =
-    record_from (lengths_of tree) (file_id number) path (length_at (lengths_of tree) number) (read_of max_text (unwrap_or (bytes_at tree path) []))
+    record_from (lengths_of tree) (file_id number) path (length_at (lengths_of tree) number) (read_of MAX_TEXT (unwrap_or (bytes_at tree path) []))
 
 -- the record of the file with a number
 abbrev pub record_of : Tree → ℕ → ModRecord
 record_of tree number = record_at tree number (path_at (lengths_of tree) number)
-
--- the files that a record's items name
-abbrev pub item_target : Item → Option ℕ
-item_target item = option_map (λ file. file.0) item.target
-
-abbrev pub targets_of : ModRecord → List ℕ
-targets_of rec = filter_map item_target rec.items
 
 -- An item of a module with a path: that of its statement, with a target among so many files, which is the one that the
 -- request names.

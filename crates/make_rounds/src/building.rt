@@ -2,7 +2,7 @@
 ghost use Rattle.std.specs.Prelude.{◌≡◌, ◌<◌, length, IfOk};
 ghost use Rattle.outside.specs.Cause.{HasCause};
 ghost use Rattle.outside.specs.Tree.{Told};
-ghost use Rattle.tree_listing.specs.Listing.{lengths_of};
+ghost use Rattle.tree_listing.specs.Listing.{IsListingOf};
 ghost use Rattle.make_rounds.specs.Build.{Builds};
 ghost use Rattle.make_rounds.specs.Shape.{IsSimple};
 
@@ -22,10 +22,10 @@ pub fn build_one<R: TreeReader>(
 ) -> Result<ModRecord, OutsideEnd>
     requires { file.0 < length listing.now.files }
     ensures follows { R.follows reader.old reader.new }
-    ensures cause { HasCause (R.faults reader.old) (R.faults reader.new) result }
+    ensures cause { HasCause (R.view reader.old).faults (R.view reader.new).faults result }
     ensures shape { IfOk result (IsSimple (length listing.now.files) file) }
-    ensures told { Told (R.tree reader.old) (λ tree. listing.now.files ≡ lengths_of tree
-        → Builds tree file.0 result (R.log reader.old) (R.log reader.new) (R.strays reader.old) (R.strays reader.new)) }
+    ensures told { Told (R.view reader.old).tree (λ tree. IsListingOf tree listing.now
+        → Builds tree file.0 (R.view reader.old) (R.view reader.new) result) }
 {
     let path = listing.path(file);
     let got = reader.read(alloc, path, Why::Module, MAX_TEXT)?;

@@ -1,7 +1,7 @@
 //! The files that a build has found.
 ghost use Rattle.std.specs.Prelude.{◌≡◌, ◌<◌, ◌≤◌, [], length, map, nat_eq, slice_index, IfOk, OnOk};
 ghost use Rattle.std.specs.List.{AllByRecursion, IsDistinct};
-ghost use Rattle.make_rounds.specs.Found.{with_file};
+ghost use Rattle.make_rounds.specs.inner.Found.{with_file};
 
 use bit_rows::BitRow;
 use fault_place::{FileId, NoMemory};
@@ -17,7 +17,7 @@ pub(crate) struct Found {
 
 impl Model for Found {
     ghost use Rattle.std.specs.Prelude.{map, length};
-    ghost use Rattle.make_rounds.specs.Found.{Finding, IsMarked};
+    ghost use Rattle.make_rounds.specs.inner.Found.{Finding, IsMarked};
 
     ghost Value = { Finding };
 

@@ -1,17 +1,17 @@
-//! The records of the files that an entry leads to, one pending file after another.
+//! The records of the files that the entries lead to, one pending file after another.
 ghost use Rattle.std.specs.Prelude.{◌≡◌, ◌<◌, [], length, option_to_list, option_map, slice_index, vec_len, OnOk, IfOk, IfSome};
 ghost use Rattle.std.specs.List.{AllByRecursion};
 ghost use Rattle.outside.specs.Cause.{HasCause};
 ghost use Rattle.outside.specs.Tree.{Told};
-ghost use Rattle.tree_listing.specs.Listing.{lengths_of};
-ghost use Rattle.make_rounds.specs.Found.{with_files};
-ghost use Rattle.make_rounds.specs.Gathered.{AreSimple, Gathers, Takes, numbers_of};
+ghost use Rattle.tree_listing.specs.Listing.{IsListingOf};
+ghost use Rattle.make_rounds.specs.inner.Found.{with_files};
+ghost use Rattle.make_rounds.specs.inner.Gathered.{AreSimple, Gathers, Takes, first_files, numbers_of};
 ghost use Rattle.make_rounds.specs.Reads.{ReadsFile};
-ghost use Rattle.make_rounds.specs.Record.{targets_of};
+ghost use Rattle.graph_types.specs.Targets.{targets_of};
 
 use crate::building::build_one;
 use crate::found::Found;
-use fault_place::{FileId, NoMemory};
+use fault_place::{FileId, NoMemory, Seq};
 use graph_types::ModRecord;
 use outside::{OutsideEnd, TreeReader};
 use std::alloc::Global;
@@ -39,14 +39,25 @@ fn add_targets(found: &mut Found, rec: &ModRecord) -> Result<(), NoMemory>
     Ok(())
 }
 
-/// The entry's files as the first that are found.
-fn first_found(alloc: Global, files: u32, entry: &[FileId]) -> Result<Found, NoMemory>
-    requires { AllByRecursion (λ file. file.0 < files) entry.now }
-    ensures { IfOk result (λ found. found ≡ with_files (record { of = files; files = [] }) (numbers_of entry.now)) }
+/// Adds files.
+fn add_files(found: &mut Found, files: &[FileId]) -> Result<(), NoMemory>
+    requires { AllByRecursion (λ file. file.0 < found.old.of) files.now }
+    ensures { OnOk result (found.new ≡ with_files found.old (numbers_of files.now)) }
+{
+    for file in files {
+        found.add(*file)?;
+    }
+    Ok(())
+}
+
+/// The files of the entries as the first that are found.
+fn first_found(alloc: Global, files: u32, entries: &[Seq<FileId>]) -> Result<Found, NoMemory>
+    requires { AllByRecursion (AllByRecursion (λ file. file.0 < files)) entries.now }
+    ensures { IfOk result (λ found. found ≡ with_files (record { of = files; files = [] }) (first_files entries.now)) }
 {
     let mut found = Found::new(alloc, files)?;
-    for file in entry {
-        found.add(*file)?;
+    for entry in entries {
+        add_files(&mut found, entry.as_slice())?;
     }
     Ok(found)
 }
@@ -62,10 +73,10 @@ fn take_next<R: TreeReader>(
     requires of { found.old.of ≡ length listing.now.files }
     requires pending { vec_len records.old < length found.old.files }
     ensures follows { R.follows reader.old reader.new }
-    ensures cause { HasCause (R.faults reader.old) (R.faults reader.new) result }
-    ensures takes { OnOk result (Takes (R.tree reader.old) listing.now.files found.old records.old.items found.new records.new.items) }
-    ensures told { Told (R.tree reader.old) (λ tree. listing.now.files ≡ lengths_of tree
-        → ReadsFile tree (slice_index found.old.files (length records.old.items)) result (R.log reader.old) (R.log reader.new) (R.strays reader.old) (R.strays reader.new)) }
+    ensures cause { HasCause (R.view reader.old).faults (R.view reader.new).faults result }
+    ensures takes { OnOk result (Takes (R.view reader.old).tree listing.now found.old records.old.items found.new records.new.items) }
+    ensures told { Told (R.view reader.old).tree (λ tree. IsListingOf tree listing.now
+        → ReadsFile tree (slice_index found.old.files (length records.old.items)) (R.view reader.old) (R.view reader.new) result) }
 {
     let file = found.file(records.len());
     let record = build_one(alloc, reader, listing, file)?;
@@ -74,22 +85,22 @@ fn take_next<R: TreeReader>(
     Ok(())
 }
 
-/// The records of an entry's files and of all that they lead to, in the order of finding: of the files found, the first
+/// The records of the entries' files and of all that they lead to, in the order of finding: of the files found, the first
 /// have their records, and the rest are pending.
 pub(crate) fn gather<R: TreeReader>(
     alloc: Global,
     reader: &mut R,
     listing: &Listing,
-    entry: &[FileId],
+    entries: &[Seq<FileId>],
 ) -> Result<Vec<ModRecord>, OutsideEnd>
-    requires { AllByRecursion (λ file. file.0 < length listing.now.files) entry.now }
+    requires { AllByRecursion (AllByRecursion (λ file. file.0 < length listing.now.files)) entries.now }
     ensures follows { R.follows reader.old reader.new }
-    ensures cause { HasCause (R.faults reader.old) (R.faults reader.new) result }
+    ensures cause { HasCause (R.view reader.old).faults (R.view reader.new).faults result }
     ensures shape { IfOk result (λ records. AreSimple (length listing.now.files) records.items) }
-    ensures told { Told (R.tree reader.old) (λ tree. listing.now.files ≡ lengths_of tree
-        → Gathers tree (numbers_of entry.now) result (R.log reader.old) (R.log reader.new) (R.strays reader.old) (R.strays reader.new)) }
+    ensures told { Told (R.view reader.old).tree (λ tree. IsListingOf tree listing.now
+        → Gathers tree (first_files entries.now) (R.view reader.old) (R.view reader.new) result) }
 {
-    let mut found = first_found(alloc, listing.count(), entry)?;
+    let mut found = first_found(alloc, listing.count(), entries)?;
     let mut records = Vec::new(alloc);
     while records.len() < found.len() {
         take_next(alloc, reader, listing, &mut found, &mut records)?;

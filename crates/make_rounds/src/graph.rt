@@ -2,8 +2,7 @@
 ghost use Rattle.std.specs.Prelude.{◌≡◌, ◌<◌, ◌^◌, ◌++◌, flat_map, nat_eq, IsPermutation, OnOk, IfOk};
 ghost use Rattle.std.specs.List.{IsDistinct};
 ghost use Rattle.graph_types.specs.Modules.{AreAscending, files_of};
-ghost use Rattle.make_rounds.specs.Fits.{Fits};
-ghost use Rattle.make_rounds.specs.Gathered.{AreSimple, IsGraphFrom};
+ghost use Rattle.make_rounds.specs.inner.Gathered.{AreSimple, IsGraphFrom};
 
 use fault_place::{Fault, FileId, NoMemory, Seq};
 use graph_types::{ModRecord, ModuleGraph};
@@ -39,34 +38,17 @@ fn all_faults(faults: Vec<Fault>, records: &[ModRecord]) -> Result<Vec<Fault>, N
 }
 
 /// The graph of records of different files, among so many.
-fn put_together(
-    alloc: Global,
-    records: Vec<ModRecord>,
-    entry: Seq<FileId>,
-    faults: Vec<Fault>,
-    files: u32,
-) -> Result<ModuleGraph, NoMemory>
-    requires { AreSimple files records.items }
-    ensures { IfOk result (IsGraphFrom records.items entry faults.items) }
-{
-    let records = in_file_order(records);
-    let faults = all_faults(faults, &records)?;
-    let mut entries = Vec::new(alloc);
-    entries.push(entry)?;
-    ModuleGraph::from_records(alloc, records, entries, faults)
-}
-
-/// The graph of records of different files, among so many, on which the later phases may rely.
 pub(crate) fn graph(
     alloc: Global,
     records: Vec<ModRecord>,
-    entry: Seq<FileId>,
+    entries: &[Seq<FileId>],
     faults: Vec<Fault>,
     files: u32,
 ) -> Result<ModuleGraph, NoMemory>
     requires { AreSimple files records.items }
-    ensures graph { IfOk result (IsGraphFrom records.items entry faults.items) }
-    ensures fits { IfOk result (Fits faults.items) }
+    ensures { IfOk result (IsGraphFrom records.items entries.now faults.items) }
 {
-    put_together(alloc, records, entry, faults, files)
+    let records = in_file_order(records);
+    let faults = all_faults(faults, &records)?;
+    ModuleGraph::from_records(alloc, records, entries, faults)
 }

@@ -2,11 +2,11 @@
 ghost use Rattle.std.specs.Prelude.{◌≡◌, ◌+◌, ◌<◌, ◌≤◌, length, IfOk, IfSome};
 ghost use Rattle.path_text.specs.Path.{IsNormal, join_of, parent_of};
 ghost use Rattle.tree_listing.specs.Listing.{number_at};
-ghost use Rattle.make_rounds.specs.Record.{IsItemOf, item_with, max_text, target_of};
-ghost use Rattle.make_rounds.specs.Imports.{Reads};
+ghost use Rattle.make_rounds.specs.Record.{IsItemOf, item_with, target_of};
+ghost use Rattle.make_rounds.specs.today.Imports.{Reads};
 
 use crate::statement::{length_of, request_of};
-use fault_place::{FileId, NoMemory, Seq, Span, Text};
+use fault_place::{FileId, MAX_TEXT, NoMemory, Seq, Span, Text};
 use graph_types::{Item, ItemKind};
 use path_text::laws::parent_is_folder;
 use path_text::{PathEnd, is_normal, join, parent};
@@ -50,7 +50,7 @@ fn item(
     at: usize,
     request: &str,
 ) -> Result<Item, NoMemory>
-    requires { at + 9 + length request.now ≤ max_text }
+    requires { at + 9 + length request.now ≤ MAX_TEXT }
     ensures is { IfOk result (IsItemOf listing.now.files path.now) }
     ensures start { IfOk result (λ item. item.span.start ≡ at) }
     ensures request { IfOk result (λ item. item.request ≡ request.now) }
@@ -75,7 +75,7 @@ pub(crate) fn imports(
     path: &str,
     text: &[u8],
 ) -> Result<Reading, NoMemory>
-    requires { length text.now ≤ max_text }
+    requires { length text.now ≤ MAX_TEXT }
     ensures { IfOk result (Reads listing.now.files path.now text.now) }
 {
     let mut items = Vec::new(alloc);

@@ -2,14 +2,14 @@
 ghost use Rattle.std.specs.Prelude.{◌≡◌, ◌<◌, ◌≤◌, ◌∷◌, [], length, map, filter_map, IfOk};
 ghost use Rattle.path_text.specs.Path.{IsNormal};
 ghost use Rattle.tree_listing.specs.Listing.{length_at};
-ghost use Rattle.make_rounds.specs.Record.{edit_of, fault_of, kind_of, whole_record, stopped_record, long_record, record_from};
-ghost use Rattle.make_rounds.specs.Shape.{IsReadable, IsSimple, HasPlaces};
+ghost use Rattle.make_rounds.specs.Record.{bare_record, edit_of, fault_at, fault_of, kind_of, whole_record, stopped_record, long_record, record_from};
+ghost use Rattle.make_rounds.specs.Shape.{HasPlaces, IsReadable, IsSimple};
 
 use crate::import::{Reading, imports};
-use crate::list::add_some;
-use fault_place::{Bytes, Fault, FaultKind, FileId, NoMemory, Place, Seq, Text, place_at};
+use fault_place::{Bytes, Fault, FaultKind, FileId, NoMemory, Place, Places, Seq, Text, place_at};
 use graph_types::{Edit, EditText, Item, ModKind, ModRecord};
 use outside::ReadGot;
+use pack_util::add_some;
 use std::alloc::Global;
 use tree_listing::Listing;
 
@@ -28,15 +28,21 @@ fn edits(alloc: Global, items: &[Item]) -> Result<Seq<Edit>, NoMemory>
 }
 
 /// The fault of an item that names no file.
-fn fault(alloc: Global, path: &str, text: &[u8], item: &Item) -> Result<Option<Fault>, NoMemory>
-    requires { item.now.at ≤ length text.now }
-    ensures { IfOk result (λ fault. fault ≡ fault_of path.now text.now item.now) }
+fn fault(
+    alloc: Global,
+    path: &str,
+    places: &mut Places<'_>,
+    item: &Item,
+) -> Result<Option<Fault>, NoMemory>
+    requires { item.now.at ≤ length places.old }
+    ensures fault { IfOk result (λ fault. fault ≡ fault_of path.now places.old item.now) }
+    ensures text { places.new ≡ places.old }
 {
     if item.target.is_some() {
         return Ok(None);
     }
     Ok(Some(Fault {
-        place: place_at(alloc, path, text, u64::from(item.at))?,
+        place: places.place(alloc, path, u64::from(item.at))?,
         kind: FaultKind::Unresolved,
         detail: item.request.clone()?,
     }))
@@ -47,9 +53,10 @@ fn faults(alloc: Global, path: &str, text: &[u8], items: &[Item]) -> Result<Seq<
     requires { HasPlaces (length text.now) items.now }
     ensures { IfOk result (λ faults. faults ≡ filter_map (fault_of path.now text.now) items.now) }
 {
+    let mut places = Places::new(text);
     let mut faults = Vec::new(alloc);
     for item in items {
-        add_some(&mut faults, fault(alloc, path, text, item)?)?;
+        add_some(&mut faults, fault(alloc, path, &mut places, item)?)?;
     }
     Ok(Seq::from_vec(faults))
 }
@@ -65,7 +72,7 @@ fn kind_of(items: &[Item]) -> ModKind
 }
 
 fn one_fault(alloc: Global, place: Place, kind: FaultKind) -> Result<Seq<Fault>, NoMemory>
-    ensures { IfOk result (λ faults. faults ≡ record { place = place; kind = kind; detail = [] } ∷ []) }
+    ensures { IfOk result (λ faults. faults ≡ fault_at place kind ∷ []) }
 {
     let mut faults = Seq::new(alloc);
     faults.push(Fault {
@@ -74,6 +81,32 @@ fn one_fault(alloc: Global, place: Place, kind: FaultKind) -> Result<Seq<Fault>,
         detail: Text::new(alloc, "")?,
     })?;
     Ok(faults)
+}
+
+/// A record of which nothing but the file is known.
+fn bare_record(
+    alloc: Global,
+    file: FileId,
+    path: &str,
+    size: u64,
+    kind: ModKind,
+) -> Result<ModRecord, NoMemory>
+    ensures { IfOk result (λ rec. rec ≡ bare_record file path.now size kind) }
+{
+    Ok(ModRecord {
+        file,
+        path: Text::new(alloc, path)?,
+        size,
+        kind,
+        text: Bytes::new(alloc, b"")?,
+        items: Seq::new(alloc),
+        binds: Seq::new(alloc),
+        exports: Seq::new(alloc),
+        stars: Seq::new(alloc),
+        edits: Seq::new(alloc),
+        notes: Seq::new(alloc),
+        faults: Seq::new(alloc),
+    })
 }
 
 /// The record of a text that is read to its end.
@@ -87,20 +120,13 @@ fn whole_record(
     requires { HasPlaces (length text) items }
     ensures { IfOk result (λ rec. rec ≡ whole_record file path.now text items) }
 {
-    Ok(ModRecord {
-        file,
-        path: Text::new(alloc, path)?,
-        size: text.get().len() as u64,
-        kind: kind_of(items.as_slice()),
-        binds: Seq::new(alloc),
-        exports: Seq::new(alloc),
-        stars: Seq::new(alloc),
-        edits: edits(alloc, items.as_slice())?,
-        notes: Seq::new(alloc),
-        faults: faults(alloc, path, text.get(), items.as_slice())?,
-        items,
-        text,
-    })
+    let size = text.get().len() as u64;
+    let mut rec = bare_record(alloc, file, path, size, kind_of(items.as_slice()))?;
+    rec.edits = edits(alloc, items.as_slice())?;
+    rec.faults = faults(alloc, path, text.get(), items.as_slice())?;
+    rec.items = items;
+    rec.text = text;
+    Ok(rec)
 }
 
 /// The record of a text that isn't read from an offset on.
@@ -115,20 +141,11 @@ fn stopped_record(
     ensures { IfOk result (λ rec. rec ≡ stopped_record file path.now text at) }
 {
     let place = place_at(alloc, path, text.get(), u64::from(at))?;
-    Ok(ModRecord {
-        file,
-        path: Text::new(alloc, path)?,
-        size: text.get().len() as u64,
-        kind: ModKind::Plain,
-        text,
-        items: Seq::new(alloc),
-        binds: Seq::new(alloc),
-        exports: Seq::new(alloc),
-        stars: Seq::new(alloc),
-        edits: Seq::new(alloc),
-        notes: Seq::new(alloc),
-        faults: one_fault(alloc, place, FaultKind::NotYet)?,
-    })
+    let size = text.get().len() as u64;
+    let mut rec = bare_record(alloc, file, path, size, ModKind::Plain)?;
+    rec.faults = one_fault(alloc, place, FaultKind::NotYet)?;
+    rec.text = text;
+    Ok(rec)
 }
 
 /// The record of a text that is too long to be kept.
@@ -136,20 +153,9 @@ fn long_record(alloc: Global, file: FileId, path: &str, size: u64) -> Result<Mod
     ensures { IfOk result (λ rec. rec ≡ long_record file path.now size) }
 {
     let place = place_at(alloc, path, b"", 0)?;
-    Ok(ModRecord {
-        file,
-        path: Text::new(alloc, path)?,
-        size,
-        kind: ModKind::Bad,
-        text: Bytes::new(alloc, b"")?,
-        items: Seq::new(alloc),
-        binds: Seq::new(alloc),
-        exports: Seq::new(alloc),
-        stars: Seq::new(alloc),
-        edits: Seq::new(alloc),
-        notes: Seq::new(alloc),
-        faults: one_fault(alloc, place, FaultKind::TooLong)?,
-    })
+    let mut rec = bare_record(alloc, file, path, size, ModKind::Bad)?;
+    rec.faults = one_fault(alloc, place, FaultKind::TooLong)?;
+    Ok(rec)
 }
 
 /// The record of the file at a path.

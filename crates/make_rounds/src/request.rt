@@ -2,7 +2,7 @@
 ghost use Rattle.std.specs.Prelude.{◌≡◌};
 ghost use Rattle.std.specs.List.{list_all};
 ghost use Rattle.std.specs.Option.{option_copied};
-ghost use Rattle.make_rounds.specs.Requests.{is_plain_byte, is_relative, is_plain, plain_of};
+ghost use Rattle.make_rounds.specs.today.Requests.{is_plain_byte, is_relative, is_plain, plain_of};
 
 fn is_plain_byte(byte: u8) -> bool
     ensures { result ≡ is_plain_byte byte }

@@ -1,7 +1,7 @@
 //! The statements that a module's text may have today.
 ghost use Rattle.std.specs.Prelude.{◌≡◌, ◌+◌, ◌<◌, ◌≤◌, length, position, IfSome};
 ghost use Rattle.std.specs.Option.{option_copied};
-ghost use Rattle.make_rounds.specs.Statements.{is_quote, quoted_request, request_of, length_of};
+ghost use Rattle.make_rounds.specs.today.Statements.{is_quote, quoted_request, request_of, length_of};
 
 use crate::request::plain_request;
 

@@ -1,10 +1,11 @@
 -- The text of a module in a chunk (this project): a function of the module's object, by the module's kind.
-use Rattle.std.specs.Prelude.{ℕ, List, [], ◌∷◌, ◌++◌, drop, nat_eq, slice_get, codes, option_map, unwrap_or, if◌then◌else◌}
+use Rattle.std.specs.Prelude.{ℕ, List, [], ◌++◌, drop, nat_eq, slice_get, codes, option_map, unwrap_or, if◌then◌else◌}
 use Rattle.std.specs.List.{starts_with}
 use Rattle.fault_place.specs.declared.number.ModuleNo.{ModuleNo}
 use Rattle.graph_types.specs.declared.record.ModKind.{ModKind}
 use Rattle.graph_types.specs.declared.record.ModKind.TheVariants.{Es, Plain, Json, Bad}
 use Rattle.graph_types.specs.declared.record.ModRecord.{ModRecord}
+use Rattle.pack_util.specs.Mark.{byte_order_mark}
 use Rattle.module_code.specs.Binds.{binds_text}
 use Rattle.module_code.specs.Body.{body_text}
 use Rattle.module_code.specs.Exports.{exports_text}
@@ -13,10 +14,6 @@ use Rattle.module_code.specs.Loads.{loads_text}
 -- a module that declares neither imports nor exports
 abbrev pub plain_text : List ModRecord → ModRecord → List ℕ
 plain_text records rec = codes "function(module,exports,__cp){\n" ++ body_text records rec ++ codes "\n}"
-
--- the byte order mark in UTF-8 (The Unicode Standard, section 23.8)
-abbrev pub byte_order_mark : List ℕ
-byte_order_mark = 239 ∷ 187 ∷ 191 ∷ []
 
 -- a text without the mark at its start
 abbrev pub without_mark : List ℕ → List ℕ

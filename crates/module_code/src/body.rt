@@ -4,9 +4,9 @@ ghost use Rattle.module_code.specs.Body.{require_text, import_text, call_text, p
 ghost use Rattle.module_code.specs.Numbers.{target_of};
 
 use crate::numbers::{target_id, target_of};
-use append_text::{add, add_around};
 use fault_place::NoMemory;
 use graph_types::{EditText, Item, ItemKind, ModRecord, ModuleGraph};
+use pack_util::{add, add_around};
 
 fn add_require(
     text: &mut Vec<u8>,

@@ -8,9 +8,9 @@ use crate::body::add_body;
 use crate::exports::add_exports;
 use crate::loads::add_loads;
 use crate::numbers::load_numbers;
-use append_text::add;
 use fault_place::NoMemory;
 use graph_types::{ModRecord, ModuleGraph};
+use pack_util::add;
 
 fn add_imported_names(text: &mut Vec<u8>, numbers: &[u32], rec: &ModRecord) -> Result<(), NoMemory>
     requires { numbers.now ≡ load_numbers rec.now.items }

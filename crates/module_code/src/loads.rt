@@ -3,9 +3,9 @@ ghost use Rattle.module_code.specs.Loads.{one_load, star_text, item_load, loads_
 ghost use Rattle.module_code.specs.Numbers.{load_numbers};
 
 use crate::numbers::{declares, starred_items, target_id};
-use append_text::add_around;
 use fault_place::NoMemory;
 use graph_types::{Item, ModRecord, ModuleGraph};
+use pack_util::add_around;
 
 fn add_one_load(text: &mut Vec<u8>, number: u64, id: u64) -> Result<(), NoMemory>
     ensures { OnOk result (text.new.items ≡ text.old.items ++ one_load number id) }

@@ -5,12 +5,10 @@ ghost use Rattle.module_code.specs.ModuleText.{plain_text, without_mark, json_te
 
 use crate::body::add_body;
 use crate::es::add_es;
-use append_text::add;
 use fault_place::{Bytes, ModuleNo, NoMemory};
 use graph_types::{ModKind, ModRecord, ModuleGraph};
+use pack_util::{BYTE_ORDER_MARK, add};
 use std::alloc::Global;
-
-const BYTE_ORDER_MARK: [u8; 3] = [0xEF, 0xBB, 0xBF];
 
 fn add_plain(text: &mut Vec<u8>, graph: &ModuleGraph, rec: &ModRecord) -> Result<(), NoMemory>
     requires { IsWhole rec.now }

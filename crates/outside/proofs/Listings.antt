@@ -1,23 +1,26 @@
 -- A walk over a tree's files gives the entries of a folder.
-use Rattle.std.proofs.Common.{◌≡◌, ◌≢◌, ℕ, Bool, true, false, not, cond, ◌&&◌, ◌==◌, nat_eq, bytes_eq, List, [], ◌∷◌, ◌++◌, length, drop, get_or, filter, fold, Some, None, Option, refl, sym, ap, ◌∙◌, subst, arith, ⊎_elim, Contains, append_assoc, append-nil}
-use Rattle.std.proofs.lemmas.Bool.{and_cases, and_parts, both_ways, not-true}
+use Rattle.std.proofs.Common.{◌≡◌, ◌≢◌, ℕ, ◌-◌, Bool, true, false, not, cond, ◌&&◌, ◌==◌, nat_eq, List, [], ◌∷◌, ◌++◌, length, drop, get_or, filter, fold, Some, None, Option, refl, sym, ap, ◌∙◌, subst, arith, ◌⊎◌, inl, inr, ⊎_elim, slice_get, Contains, append_assoc, append-nil, length-append}
+use Rattle.std.proofs.lemmas.Bool.{and_parts, both_ways, false_from_ne_true, not-true}
 use Rattle.std.proofs.lemmas.List.Elements.{Contains-append_left, Contains-push, Contains-push_cases, Contains-get_or, All-weaker, All-contains_itself}
-use Rattle.std.proofs.lemmas.List.Folds.{list_any_at, Any-from_list_any}
+use Rattle.std.proofs.lemmas.List.{get_or_at}
 use Rattle.std.proofs.lemmas.List.Quantifiers.{all_pairs_push}
+use Rattle.std.proofs.lemmas.Option.{get_or_from_slice_get, same_Some, slice_get_read, slice_get_within}
 use Rattle.std.proofs.lemmas.Slice.Eq.{bytes_eq-Decides}
-use Rattle.std.specs.List.{starts_with, AllPairs, before_first, after_first}
+use Rattle.std.specs.List.{list_any, starts_with, AllPairs, before_first, after_first}
 use Rattle.std.specs.FinMap.Entries.{find, is_sorted}
+use Rattle.std.specs.Ordering.{is_lt}
 use Rattle.path_text.specs.Child.{IsSegment, child_of}
 use Rattle.path_text.specs.Path.{is_slash, is_normal}
 use Rattle.outside.specs.Cut.{has_prefix}
 use Rattle.outside.specs.Reads.{IsEntry, AreEntries, kind_at, kind_of}
 use Rattle.outside.specs.Tree.{Tree, IsTree, is_folder, has_file_within, within}
-use Rattle.outside.specs.Walk.{child_in, with_entry, has_name, is_folder_kind, kind_of_rest}
+use Rattle.outside.specs.Walk.{child_in, with_entry, is_named, is_last_name, is_folder_kind, kind_of_rest}
 use Rattle.outside.specs.declared.entry.DirEntry.{DirEntry}
+use Rattle.outside.specs.declared.entry.EntryKind.{EntryKind}
 use Rattle.outside.specs.declared.entry.EntryKind.TheVariants.{File, Folder}
-use Rattle.outside.proofs.Orders.{order}
-use Rattle.outside.proofs.Members.{Contains-from_filter, Contains-filter, member_is_found, found_is_member, any_member, member_passes_any, member_passes_all, earlier_is_other, is_sorted-filter}
-use Rattle.outside.proofs.Names.{IsNameAlone, HasNameBefore, name_cases, name_is_segment, child_within, child_is_full, segment_has_no_slash, entry_alone, entry_before, IsChild, child_parts, child_from}
+use Rattle.outside.proofs.Orders.{order, before_trans, prefix_not_before, between}
+use Rattle.outside.proofs.Members.{Contains-from_filter, Contains-filter, member_is_found, found_is_member, any_member, member_passes_any, member_passes_all, earlier_is_before, before_is_other, is_sorted-filter}
+use Rattle.outside.proofs.Names.{has_no_slash, IsNameAlone, HasNameBefore, name_cases, name_is_segment, child_within, child_is_full, segment_has_no_slash, entry_alone, entry_before, IsChild, child_parts, child_from}
 use Rattle.outside.proofs.Within.{starts_from, starts_to, starts_within, slash_after, not_root, folder_is_held, begins_within}
 
 -- ---- what stands at a path
@@ -112,11 +115,27 @@ walk folder entries files = fold (λ es file. with_entry es (child_in folder fil
 abbrev OtherName : DirEntry → DirEntry → Type 0
 OtherName one other = one.name ≢ other.name
 
--- the entries that the files so far give: each is given by one, each one gives one of them, and none twice
+abbrev IsLast : List DirEntry → DirEntry → Type 0
+IsLast entries entry = slice_get entries (length entries - 1) ≡ Some entry
+
+-- what the paths of all files of an entry that is a folder begin with
+abbrev front : List ℕ → DirEntry → List ℕ
+front folder entry = within folder ++ (entry.name ++ 47 ∷ [])
+
+-- some file stands past those of an entry that is a folder
+record IsPassed (folder : List ℕ) (done : Tree) (entry : DirEntry) : Type 0 where
+  file : List ℕ × List ℕ
+  among : Contains done file
+  past : is_lt (order file.0 (front folder entry)) ≡ false
+  outside : starts_with nat_eq file.0 (front folder entry) ≡ false
+
+-- The entries that the files so far give: each is given by one, each one gives one of them, and none twice. One that is
+-- a folder is the last, or its files are passed.
 record AreGiven (folder : List ℕ) (done : Tree) (entries : List DirEntry) : Type 0 where
   from : (entry : DirEntry) → Contains entries entry → IsGiven done folder entry
   all : (file : List ℕ × List ℕ) → Contains done file → (entry : DirEntry) → child_in folder file ≡ Some entry → Contains entries entry
   once : AllPairs OtherName entries
+  latest : (file : List ℕ × List ℕ) → Contains done file → (entry : DirEntry) → child_in folder file ≡ Some entry → is_folder_kind entry.kind ≡ true → IsLast entries entry ⊎ IsPassed folder done entry
 
 later : (folder : List ℕ) (done : Tree) (file : List ℕ × List ℕ) (entry : DirEntry) → IsGiven done folder entry → IsGiven (done ++ file ∷ []) folder entry
 later folder done file entry given = record { file = given.file; among = Contains-append_left done (file ∷ []) given.file given.among; child = given.child }
@@ -136,7 +155,7 @@ record IsNext (tree : Tree) (folder : List ℕ) (done : Tree) (file : List ℕ �
   is_tree : IsTree tree
   done_among : (other : List ℕ × List ℕ) → Contains done other → Contains tree other
   among : Contains tree file
-  other : (earlier : List ℕ × List ℕ) → Contains done earlier → earlier.0 ≡ file.0 → ⊥
+  before : (earlier : List ℕ × List ℕ) → Contains done earlier → is_lt (order earlier.0 file.0) ≡ true
 
 entry_of_given : (tree : Tree) (folder : List ℕ) (done : Tree) (file : List ℕ × List ℕ) (entry : DirEntry) → IsNext tree folder done file → IsGiven done folder entry → IsEntry tree folder entry
 entry_of_given tree folder done file entry next given =
@@ -147,50 +166,128 @@ same_name : (tree : Tree) (folder : List ℕ) (done : Tree) (file : List ℕ × 
 same_name tree folder done file entries new entry next given is among names =
     same_entry tree folder entry new (entry_of_given tree folder done file entry next (given.from entry among)) (child_is_entry tree folder file new next.is_tree next.among is) names
 
-there_already : (tree : Tree) (folder : List ℕ) (done : Tree) (file : List ℕ × List ℕ) (entries : List DirEntry) (new : DirEntry) → IsNext tree folder done file → AreGiven folder done entries → child_in folder file ≡ Some new → has_name new.name entries ≡ true → Contains entries new
-there_already tree folder done file entries new next given is named =
-    let found = Any-from_list_any (λ entry. bytes_eq entry.name new.name) entries named in
-    let among : Contains entries found.1 = (found.0, found.2, found.3) in
-    subst (Contains entries) (same_name tree folder done file entries new found.1 next given is among ((bytes_eq-Decides found.1.name new.name).0 found.4)) among
+-- ---- the files of a folder stand together
+
+later_passed : (folder : List ℕ) (done : Tree) (file : List ℕ × List ℕ) (entry : DirEntry) → IsPassed folder done entry → IsPassed folder (done ++ file ∷ []) entry
+later_passed folder done file entry passed =
+    record { file = passed.file; among = Contains-append_left done (file ∷ []) passed.file passed.among; past = passed.past; outside = passed.outside }
+
+still : (folder : List ℕ) (done : Tree) (file : List ℕ × List ℕ) (entries : List DirEntry) (entry : DirEntry) → IsLast entries entry ⊎ IsPassed folder done entry → IsLast entries entry ⊎ IsPassed folder (done ++ file ∷ []) entry
+still folder done file entries entry = ⊎_elim (λ last. inl last) (λ passed. inr (later_passed folder done file entry passed))
+
+-- a file of a folder begins with its front
+begins_front : (folder : List ℕ) (file : List ℕ × List ℕ) (entry : DirEntry) → child_in folder file ≡ Some entry → is_folder_kind entry.kind ≡ true → starts_with nat_eq file.0 (front folder entry) ≡ true
+begins_front folder file entry e is = by (child_parts folder file entry e)
+  where
+    by : IsChild folder file entry → starts_with nat_eq file.0 (front folder entry) ≡ true
+    by child = ⊎_elim
+        (λ alone. absurd (both_ways _ (ap is_folder_kind (ap (λ x. x.kind) (sym child.entry_is) ∙ alone.kind)) is))
+        (λ before.
+        let more = after_first is_slash child.rest in
+        let name : before_first is_slash child.rest ≡ entry.name = ap (λ x. x.name) child.entry_is in
+        starts_from file.0 (front folder entry) more
+        (child.path ∙ ap (λ r. within folder ++ r) (before.parts ∙ ap (λ n. n ++ 47 ∷ more) name ∙ sym (slash_after entry.name more)) ∙ sym (append_assoc (within folder) (entry.name ++ 47 ∷ []) more)))
+        (name_cases child.rest (length file.1))
+
+folder_kind : (kind : EntryKind) → is_folder_kind kind ≡ true → kind ≡ Folder
+folder_kind (File count) is = cc
+folder_kind Folder is = refl
+
+-- what begins with the front is a file of the folder
+front_child : (folder : List ℕ) (one other : List ℕ × List ℕ) (entry : DirEntry) → child_in folder one ≡ Some entry → is_folder_kind entry.kind ≡ true → starts_with nat_eq other.0 (front folder entry) ≡ true → child_in folder other ≡ Some entry
+front_child folder one other entry e is begins =
+    let child = child_parts folder one entry e in
+    let none : list_any is_slash entry.name ≡ false = ap (list_any is_slash) (sym (ap (λ x. x.name) child.entry_is)) ∙ has_no_slash child.rest in
+    let more = drop (length (front folder entry)) other.0 in
+    let parts : other.0 ≡ within folder ++ (entry.name ++ 47 ∷ more) =
+    starts_to other.0 (front folder entry) begins ∙ append_assoc (within folder) (entry.name ++ 47 ∷ []) more ∙ ap (λ r. within folder ++ r) (slash_after entry.name more) in
+    child_from folder other (entry.name ++ 47 ∷ more) parts
+    ∙ ap (λ x. Some x) (entry_before entry.name more (length other.1) none ∙ (λ i. record { name = entry.name; kind = sym (folder_kind entry.kind is) i }))
+
+-- the next file is past a front with which an earlier one begins
+next_is_past : (one other : List ℕ) (prefix : List ℕ) → is_lt (order one other) ≡ true → starts_with nat_eq one prefix ≡ true → is_lt (order other prefix) ≡ false
+next_is_past one other prefix before begins =
+    false_from_ne_true _ (λ early. both_ways _ (prefix_not_before prefix one begins) (before_trans one other prefix before early))
+
+-- no file of a folder comes where its files are passed
+not_passed : (tree : Tree) (folder : List ℕ) (done : Tree) (file : List ℕ × List ℕ) (entry : DirEntry) → IsNext tree folder done file → child_in folder file ≡ Some entry → is_folder_kind entry.kind ≡ true → IsPassed folder done entry → ⊥
+not_passed tree folder done file entry next e is passed =
+    both_ways _ passed.outside (between (front folder entry) passed.file.0 file.0 passed.past (next.before passed.file passed.among) (begins_front folder file entry e is))
+
+-- ---- the last entry
+
+last_pushed : (entries : List DirEntry) (new : DirEntry) → IsLast (entries ++ new ∷ []) new
+last_pushed entries new =
+    let all = entries ++ new ∷ [] in
+    let count : length entries ≡ length all - 1 = omega (arith, length-append entries (new ∷ [])) in
+    subst (λ k. slice_get all k ≡ Some new) count
+    (slice_get_read all (length all) (length entries) new refl (omega (arith, length-append entries (new ∷ []))) (sym (get_or_at entries new [] new (length entries) refl)))
+
+is_last_named : (entries : List DirEntry) (entry : DirEntry) (name : List ℕ) → IsLast entries entry → entry.name ≡ name → is_last_name name entries ≡ true
+is_last_named entries entry name last same = ap (is_named name) last ∙ (bytes_eq-Decides entry.name name).1 same
+
+named_at : (entries : List DirEntry) (name : List ℕ) (o : Option DirEntry) → slice_get entries (length entries - 1) ≡ o → is_named name o ≡ true → (entry : DirEntry) × IsLast entries entry × (entry.name ≡ name)
+named_at entries name None last named = cc
+named_at entries name (Some entry) last named = (entry, last, (bytes_eq-Decides entry.name name).0 named)
+
+last_among : (entries : List DirEntry) (entry : DirEntry) → IsLast entries entry → Contains entries entry
+last_among entries entry last =
+    (length entries - 1, slice_get_within entries (length entries - 1) entry last, get_or_from_slice_get entries (length entries - 1) entry entry last)
+
+last_is_there : (tree : Tree) (folder : List ℕ) (done : Tree) (file : List ℕ × List ℕ) (entries : List DirEntry) (new : DirEntry) → IsNext tree folder done file → AreGiven folder done entries → child_in folder file ≡ Some new → is_last_name new.name entries ≡ true → IsLast entries new
+last_is_there tree folder done file entries new next given is named =
+    let found = named_at entries new.name (slice_get entries (length entries - 1)) refl named in
+    subst (IsLast entries) (same_name tree folder done file entries new found.0 next given is (last_among entries found.0 found.1) found.2) found.1
 
 -- no entry has the name of a new one that is added
-is_new : (tree : Tree) (folder : List ℕ) (done : Tree) (file : List ℕ × List ℕ) (entries : List DirEntry) (new : DirEntry) → IsNext tree folder done file → AreGiven folder done entries → child_in folder file ≡ Some new → (is_folder_kind new.kind && has_name new.name entries) ≡ false → (entry : DirEntry) → Contains entries entry → entry.name ≡ new.name → ⊥
+is_new : (tree : Tree) (folder : List ℕ) (done : Tree) (file : List ℕ × List ℕ) (entries : List DirEntry) (new : DirEntry) → IsNext tree folder done file → AreGiven folder done entries → child_in folder file ≡ Some new → (is_folder_kind new.kind && is_last_name new.name entries) ≡ false → (entry : DirEntry) → Contains entries entry → entry.name ≡ new.name → ⊥
 is_new tree folder done file entries new next given is unnamed entry among names =
-    ⊎_elim
-    (λ is_file.
     let one = given.from entry among in
     let same : entry ≡ new = same_name tree folder done file entries new entry next given is among names in
-    let child : child_in folder one.file ≡ Some new = one.child ∙ ap (λ x. Some x) same in
-    next.other one.file one.among (path_of_file folder one.file new child is_file ∙ sym (path_of_file folder file new is is_file)))
-    (λ no_name. both_ways _ no_name (list_any_at (λ other. bytes_eq other.name new.name) entries among.0 entry among.1
-    (ap (λ other. bytes_eq other.name new.name) among.2 ∙ (bytes_eq-Decides entry.name new.name).1 names)))
-    (and_cases (is_folder_kind new.kind) (has_name new.name entries) unnamed)
+    at one.file one.among (one.child ∙ ap (λ x. Some x) same) (is_folder_kind new.kind) refl
+  where
+    at : (one : List ℕ × List ℕ) → Contains done one → child_in folder one ≡ Some new → (is_kind : Bool) → is_folder_kind new.kind ≡ is_kind → ⊥
+    at one there child false is_file =
+        before_is_other one.0 file.0 (next.before one there) (path_of_file folder one new child is_file ∙ sym (path_of_file folder file new is is_file))
+    at one there child true is_folder =
+        ⊎_elim
+        (λ last. both_ways _ (ap (λ b. b && is_last_name new.name entries) (sym is_folder) ∙ unnamed) (is_last_named entries new new.name last refl))
+        (not_passed tree folder done file new next is is_folder)
+        (given.latest one there new child is_folder)
 
 given_none : (folder : List ℕ) (done : Tree) (file : List ℕ × List ℕ) (entries : List DirEntry) → AreGiven folder done entries → child_in folder file ≡ None → AreGiven folder (done ++ file ∷ []) entries
 given_none folder done file entries given none = record {
   from = λ entry among. later folder done file entry (given.from entry among);
   all = λ other among entry child.
       ⊎_elim (λ before. given.all other before entry child)
-      (λ same. let absent : None ≡ Some entry = sym none ∙ ap (child_in folder) same ∙ child in cc)
+      (λ same. absurd (gives_none entry (ap (child_in folder) same ∙ child)))
       (Contains-push_cases done file other among);
   once = given.once;
+  latest = λ other among entry child is.
+      ⊎_elim (λ before. still folder done file entries entry (given.latest other before entry child is))
+      (λ same. absurd (gives_none entry (ap (child_in folder) same ∙ child)))
+      (Contains-push_cases done file other among);
 }
+  where
+    gives_none : (entry : DirEntry) → child_in folder file ≡ Some entry → ⊥
+    gives_none entry child = (let absent : None ≡ Some entry = sym none ∙ child in cc)
 
-given_known : (folder : List ℕ) (done : Tree) (file : List ℕ × List ℕ) (entries : List DirEntry) (new : DirEntry) → AreGiven folder done entries → child_in folder file ≡ Some new → Contains entries new → AreGiven folder (done ++ file ∷ []) entries
-given_known folder done file entries new given is known = record {
+given_known : (folder : List ℕ) (done : Tree) (file : List ℕ × List ℕ) (entries : List DirEntry) (new : DirEntry) → AreGiven folder done entries → child_in folder file ≡ Some new → IsLast entries new → AreGiven folder (done ++ file ∷ []) entries
+given_known folder done file entries new given is last = record {
   from = λ entry among. later folder done file entry (given.from entry among);
   all = λ other among entry child.
       ⊎_elim (λ before. given.all other before entry child)
-      (λ same.
-      let some : Some new ≡ Some entry = sym is ∙ ap (child_in folder) same ∙ child in
-      let equal : new ≡ entry = cc in
-      subst (Contains entries) equal known)
+      (λ same. subst (Contains entries) (same_Some new entry (sym is ∙ ap (child_in folder) same ∙ child)) (last_among entries new last))
       (Contains-push_cases done file other among);
   once = given.once;
+  latest = λ other among entry child is_kind.
+      ⊎_elim (λ before. still folder done file entries entry (given.latest other before entry child is_kind))
+      (λ same. inl (subst (IsLast entries) (same_Some new entry (sym is ∙ ap (child_in folder) same ∙ child)) last))
+      (Contains-push_cases done file other among);
 }
 
-given_new : (folder : List ℕ) (done : Tree) (file : List ℕ × List ℕ) (entries : List DirEntry) (new : DirEntry) → AreGiven folder done entries → child_in folder file ≡ Some new → ((entry : DirEntry) → Contains entries entry → entry.name ≡ new.name → ⊥) → AreGiven folder (done ++ file ∷ []) (entries ++ new ∷ [])
-given_new folder done file entries new given is other_names = record {
+given_new : (tree : Tree) (folder : List ℕ) (done : Tree) (file : List ℕ × List ℕ) (entries : List DirEntry) (new : DirEntry) → IsNext tree folder done file → AreGiven folder done entries → child_in folder file ≡ Some new → ((entry : DirEntry) → Contains entries entry → entry.name ≡ new.name → ⊥) → AreGiven folder (done ++ file ∷ []) (entries ++ new ∷ [])
+given_new tree folder done file entries new next given is other_names = record {
   from = λ entry among.
       ⊎_elim (λ before. later folder done file entry (given.from entry before))
       (λ same.
@@ -199,24 +296,34 @@ given_new folder done file entries new given is other_names = record {
       (Contains-push_cases entries new entry among);
   all = λ other among entry child.
       ⊎_elim (λ before. Contains-append_left entries (new ∷ []) entry (given.all other before entry child))
-      (λ same.
-      let some : Some new ≡ Some entry = sym is ∙ ap (child_in folder) same ∙ child in
-      let equal : new ≡ entry = cc in
-      subst (Contains (entries ++ new ∷ [])) equal (Contains-push entries new))
+      (λ same. subst (Contains (entries ++ new ∷ [])) (same_Some new entry (sym is ∙ ap (child_in folder) same ∙ child)) (Contains-push entries new))
       (Contains-push_cases done file other among);
   once = all_pairs_push OtherName entries new given.once (λ k d inside. other_names (get_or entries k d) (Contains-get_or entries k d inside));
+  latest = λ other among entry child is_kind.
+      ⊎_elim (λ before. inr (passed other before entry child is_kind))
+      (λ same. inl (subst (IsLast (entries ++ new ∷ [])) (same_Some new entry (sym is ∙ ap (child_in folder) same ∙ child)) (last_pushed entries new)))
+      (Contains-push_cases done file other among);
 }
+  where
+    passed : (other : List ℕ × List ℕ) → Contains done other → (entry : DirEntry) → child_in folder other ≡ Some entry → is_folder_kind entry.kind ≡ true → IsPassed folder (done ++ file ∷ []) entry
+    passed other before entry child is_kind = record {
+      file = file;
+      among = Contains-push done file;
+      past = next_is_past other.0 file.0 (front folder entry) (next.before other before) (begins_front folder other entry child is_kind);
+      outside = false_from_ne_true _ (λ begins.
+          other_names entry (given.all other before entry child) (ap (λ x. x.name) (same_Some entry new (sym (front_child folder other file entry child is_kind begins) ∙ is))));
+    }
 
-step_at : (tree : Tree) (folder : List ℕ) (done : Tree) (file : List ℕ × List ℕ) (entries : List DirEntry) (new : DirEntry) (known : Bool) → IsNext tree folder done file → AreGiven folder done entries → child_in folder file ≡ Some new → (is_folder_kind new.kind && has_name new.name entries) ≡ known → AreGiven folder (done ++ file ∷ []) (cond known entries (entries ++ new ∷ []))
+step_at : (tree : Tree) (folder : List ℕ) (done : Tree) (file : List ℕ × List ℕ) (entries : List DirEntry) (new : DirEntry) (known : Bool) → IsNext tree folder done file → AreGiven folder done entries → child_in folder file ≡ Some new → (is_folder_kind new.kind && is_last_name new.name entries) ≡ known → AreGiven folder (done ++ file ∷ []) (cond known entries (entries ++ new ∷ []))
 step_at tree folder done file entries new true next given is known =
-    given_known folder done file entries new given is (there_already tree folder done file entries new next given is (and_parts (is_folder_kind new.kind) (has_name new.name entries) known).1)
+    given_known folder done file entries new given is (last_is_there tree folder done file entries new next given is (and_parts (is_folder_kind new.kind) (is_last_name new.name entries) known).1)
 step_at tree folder done file entries new false next given is known =
-    given_new folder done file entries new given is (is_new tree folder done file entries new next given is known)
+    given_new tree folder done file entries new next given is (is_new tree folder done file entries new next given is known)
 
 step : (tree : Tree) (folder : List ℕ) (done : Tree) (file : List ℕ × List ℕ) (entries : List DirEntry) (o : Option DirEntry) → IsNext tree folder done file → AreGiven folder done entries → child_in folder file ≡ o → AreGiven folder (done ++ file ∷ []) (with_entry entries o)
 step tree folder done file entries None next given is = given_none folder done file entries given is
 step tree folder done file entries (Some new) next given is =
-    step_at tree folder done file entries new (is_folder_kind new.kind && has_name new.name entries) next given is refl
+    step_at tree folder done file entries new (is_folder_kind new.kind && is_last_name new.name entries) next given is refl
 
 walk_gives : (tree : Tree) (folder : List ℕ) (done rest : Tree) (entries : List DirEntry) → IsTree tree → ((file : List ℕ × List ℕ) → Contains (done ++ rest) file → Contains tree file) → is_sorted order (done ++ rest) ≡ true → AreGiven folder done entries → AreGiven folder (done ++ rest) (walk folder entries rest)
 walk_gives tree folder done [] entries is inside sorted given = subst (λ files. AreGiven folder files entries) (sym (append-nil done)) given
@@ -226,7 +333,7 @@ walk_gives tree folder done (file ∷ rest) entries is inside sorted given =
       is_tree = is;
       done_among = λ other among. inside other (Contains-append_left done (file ∷ rest) other among);
       among = inside file (subst (λ files. Contains files file) regroup (Contains-append_left (done ++ file ∷ []) rest file (Contains-push done file)));
-      other = λ earlier among same. earlier_is_other done file rest earlier sorted among same;
+      before = λ earlier among. earlier_is_before done file rest earlier sorted among;
     } in
     subst (λ files. AreGiven folder files (walk folder (with_entry entries (child_in folder file)) rest)) regroup
     (walk_gives tree folder (done ++ file ∷ []) rest (with_entry entries (child_in folder file)) is
@@ -239,6 +346,7 @@ nothing_given folder = record {
   from = λ entry among. absurd (omega (arith, among.1));
   all = λ file among entry child. absurd (omega (arith, among.1));
   once = λ i j d before inside. absurd (omega arith);
+  latest = λ file among entry child is. absurd (omega (arith, among.1));
 }
 
 pub listing : (tree : Tree) (folder : List ℕ) → IsTree tree → AreEntries tree folder (walk folder [] (filter (has_prefix folder) tree))

@@ -93,21 +93,24 @@ pub member_passes_all : (test : List ℕ → Bool) (tree : Tree) (file : List �
 member_passes_all test tree file among all =
     true_from_ne_false _ (λ fails. both_ways _ (list_all_at test (files_of tree) among.0 file.0 (omega (arith, length-map tree (λ f. f.0), among.1)) (ap test (path_at tree file among) ∙ fails)) all)
 
--- ---- what stands before a file has another path
+-- ---- what stands before a file is before it in byte order, and has another path
 
 below_mid : (path : List ℕ) (es : Tree) (file : List ℕ × List ℕ) (rest : Tree) → below_all order path (es ++ file ∷ rest) ≡ true → is_lt (order path file.0) ≡ true
 below_mid path [] file rest below = (and_parts (is_lt (order path file.0)) (below_all order path rest) below).0
 below_mid path (e ∷ es) file rest below =
     below_mid path es file rest (and_parts (is_lt (order path e.0)) (below_all order path (es ++ file ∷ rest)) below).1
 
-pub earlier_is_other : (done : Tree) (file : List ℕ × List ℕ) (rest : Tree) (other : List ℕ × List ℕ) → is_sorted order (done ++ file ∷ rest) ≡ true → Contains done other → other.0 ≡ file.0 → ⊥
-earlier_is_other [] file rest other sorted (k, inside, is) same = absurd (omega arith)
-earlier_is_other (e ∷ es) file rest other sorted (zero, inside, is) same =
+pub earlier_is_before : (done : Tree) (file : List ℕ × List ℕ) (rest : Tree) (other : List ℕ × List ℕ) → is_sorted order (done ++ file ∷ rest) ≡ true → Contains done other → is_lt (order other.0 file.0) ≡ true
+earlier_is_before [] file rest other sorted (k, inside, is) = absurd (omega arith)
+earlier_is_before (e ∷ es) file rest other sorted (zero, inside, is) =
     let below = below_mid e.0 es file rest (and_parts (below_all order e.0 (es ++ file ∷ rest)) (is_sorted order (es ++ file ∷ rest)) sorted).0 in
-    let tied : order e.0 file.0 ≡ Equal = ap (λ p. order e.0 p) (sym (ap (λ f. f.0) is ∙ same)) ∙ tied_itself nat_list_cmp_total e.0 in
-    both_ways _ (ap is_lt tied) below
-earlier_is_other (e ∷ es) file rest other sorted (suc k, inside, is) same =
-    earlier_is_other es file rest other (and_parts (below_all order e.0 (es ++ file ∷ rest)) (is_sorted order (es ++ file ∷ rest)) sorted).1 (k, omega arith, is) same
+    subst (λ f. is_lt (order f.0 file.0) ≡ true) is below
+earlier_is_before (e ∷ es) file rest other sorted (suc k, inside, is) =
+    earlier_is_before es file rest other (and_parts (below_all order e.0 (es ++ file ∷ rest)) (is_sorted order (es ++ file ∷ rest)) sorted).1 (k, omega arith, is)
+
+pub before_is_other : (one other : List ℕ) → is_lt (order one other) ≡ true → one ≡ other → ⊥
+before_is_other one other before same =
+    both_ways _ (ap is_lt (ap (order one) (sym same) ∙ tied_itself nat_list_cmp_total one)) before
 
 pub is_sorted-filter : (test : List ℕ → Bool) (tree : Tree) → is_sorted order tree ≡ true → is_sorted order (filter (λ file. test file.0) tree) ≡ true
 is_sorted-filter test tree sorted = true_from_T _ (is_sorted-where_key order test tree (T_from_true _ sorted))

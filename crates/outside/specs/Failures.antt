@@ -1,7 +1,8 @@
 -- Forms in memory that fail in chosen calls (this project).
-use Rattle.std.specs.Prelude.{◌≡◌, ◌↔◌, ◌==◌, ◌||◌, ℕ, Bool, List, [], Result, Ok, Err, IsErrOf, IsTrue}
+use Rattle.std.specs.Prelude.{◌≡◌, ◌↔◌, ◌==◌, ◌||◌, ℕ, Bool, List, [], Some, Result, Ok, Err, IsErrOf, IsTrue}
 use Rattle.std.specs.List.{list_any}
 use Rattle.outside.specs.Cause.{risen}
+use Rattle.outside.specs.Views.{SinkView}
 use Rattle.outside.specs.declared.outside_end.OutsideEnd.{OutsideEnd}
 use Rattle.outside.specs.declared.outside_end.OutsideEnd.TheVariants.{Failed, NoMemory}
 
@@ -38,3 +39,7 @@ pub record Taken (A : Type 0) : Type 0 where
 -- a sink that has taken nothing yet
 abbrev pub empty : {A : Type 0} → List ℕ → Taken A
 empty calls = record { members = []; plan = fresh calls }
+
+-- a sink in memory tells all that it has taken
+abbrev pub sink_view : {A : Type 0} → Taken A → SinkView A
+sink_view sink = record { held = Some sink.members; faults = sink.plan.faults }

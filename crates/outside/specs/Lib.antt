@@ -2,9 +2,11 @@ pub mod Additions
 pub mod Cause
 pub mod Cut
 pub mod Failures
+pub mod Logs
 pub mod MemReaders
 pub mod Readings
 pub mod Reads
 pub mod Sinks
 pub mod Tree
+pub mod Views
 pub mod Walk

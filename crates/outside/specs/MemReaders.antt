@@ -8,5 +8,6 @@ reading reader = record {
   plan = reader.plan;
   paths = reader.paths.items;
   log = reader.log.items;
+  listed = reader.listed.items;
   strays = reader.strays;
 }

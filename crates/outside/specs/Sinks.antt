@@ -1,5 +1,7 @@
 -- What a sink's call does to its list (this project).
 use Rattle.std.specs.Prelude.{◌≡◌, ℕ, List, [], ◌∷◌, ◌++◌, Option, option_map, Result, is_ok, if◌then◌else◌}
+use Rattle.outside.specs.Cause.{HasCause}
+use Rattle.outside.specs.Views.{SinkView}
 use Rattle.outside.specs.declared.outside_end.OutsideEnd.{OutsideEnd}
 use Rattle.outside.specs.declared.asset_sink.Asset.{Asset}
 
@@ -11,5 +13,6 @@ abbrev pub HasAdded : {A : Type 0} → Option (List A) → Option (List A) → L
 HasAdded old new more = new ≡ option_map (λ members. members ++ more) old
 
 -- an Ok adds the member, and any other answer leaves the list
-abbrev pub Adds : {A : Type 0} → Option (List A) → Option (List A) → A → Result Unit OutsideEnd → Type 0
-Adds old new member result = HasAdded old new (if is_ok result then member ∷ [] else [])
+pub record Puts {A : Type 0} (member : A) (before now : SinkView A) (result : Result Unit OutsideEnd) : Type 0 where
+  pub held : HasAdded before.held now.held (if is_ok result then member ∷ [] else [])
+  pub cause : HasCause before.faults now.faults result

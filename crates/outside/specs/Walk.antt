@@ -1,6 +1,6 @@
 -- What files give of a folder that is listed, one after another (this project).
-use Rattle.std.specs.Prelude.{ℕ, Bool, true, false, ◌&&◌, nat_eq, nat_lt, List, [], ◌∷◌, ◌++◌, length, drop, bytes_eq, Option, Some, None, option_map, if◌then◌else◌}
-use Rattle.std.specs.List.{starts_with, list_any, position_or_len, before_first}
+use Rattle.std.specs.Prelude.{ℕ, ◌-◌, Bool, true, false, ◌&&◌, nat_eq, nat_lt, List, [], ◌∷◌, ◌++◌, length, drop, slice_get, bytes_eq, Option, Some, None, option_map, if◌then◌else◌}
+use Rattle.std.specs.List.{starts_with, position_or_len, before_first}
 use Rattle.path_text.specs.Path.{is_slash}
 use Rattle.outside.specs.Tree.{within}
 use Rattle.outside.specs.declared.entry.DirEntry.{DirEntry}
@@ -24,15 +24,19 @@ entry_of_rest rest count = record { name = before_first is_slash rest; kind = ki
 abbrev pub child_in : List ℕ → List ℕ × List ℕ → Option DirEntry
 child_in folder file = option_map (λ rest. entry_of_rest rest (length file.1)) (rest_within folder file.0)
 
-abbrev pub has_name : List ℕ → List DirEntry → Bool
-has_name name entries = list_any (λ entry. bytes_eq entry.name name) entries
+abbrev pub is_named : List ℕ → Option DirEntry → Bool
+is_named name None = false
+is_named name (Some entry) = bytes_eq entry.name name
+
+abbrev pub is_last_name : List ℕ → List DirEntry → Bool
+is_last_name name entries = is_named name (slice_get entries (length entries - 1))
 
 abbrev pub is_folder_kind : EntryKind → Bool
 is_folder_kind (File count) = false
 is_folder_kind Folder = true
 
--- the entries and one more, but for a folder that is among them
+-- the entries and one more, but for a folder that is the last of them
 abbrev pub with_entry : List DirEntry → Option DirEntry → List DirEntry
 with_entry entries None = entries
 with_entry entries (Some entry) =
-    if is_folder_kind entry.kind && has_name entry.name entries then entries else entries ++ entry ∷ []
+    if is_folder_kind entry.kind && is_last_name entry.name entries then entries else entries ++ entry ∷ []

@@ -11,22 +11,18 @@ pub struct Asset {
 
 /// Takes the assets of a build.
 pub trait AssetSink {
-    ghost use Rattle.std.specs.Prelude.{◌≡◌, ℕ, List, Option, Result};
-    ghost use Rattle.outside.specs.Cause.{HasCause};
-    ghost use Rattle.outside.specs.Sinks.{Adds, asset};
+    ghost use Rattle.std.specs.Prelude.{◌≡◌};
+    ghost use Rattle.outside.specs.Sinks.{Puts, asset};
+    ghost use Rattle.outside.specs.Views.{SinkView};
     ghost use Rattle.outside.specs.declared.asset_sink.Asset.{Asset};
 
-    /// The assets that it has taken, in order, where they are told.
-    ghost held: { Self → Option (List Asset) };
-
-    /// How often it has failed; the count stands still at the last `u64`.
-    ghost faults: { Self → ℕ };
+    /// What contracts see of it.
+    ghost view: { Self → SinkView Asset };
 
     fn put(&mut self, alloc: Global, name: &str, bytes: &[u8]) -> Result<(), OutsideEnd>
-        ensures held { Adds (held self.old) (held self.new) (asset name.now bytes.now) result }
-        ensures cause { HasCause (faults self.old) (faults self.new) result };
+        ensures { Puts (asset name.now bytes.now) (view self.old) (view self.new) result };
 
     /// The count of faults. Takes no memory.
     fn faults(&self) -> u64
-        ensures { result ≡ faults self.now };
+        ensures { result ≡ (view self.now).faults };
 }

@@ -8,7 +8,7 @@ ghost use Rattle.path_text.specs.Path.{is_slash};
 ghost use Rattle.outside.specs.Cut.{has_prefix};
 ghost use Rattle.outside.specs.Reads.{AreEntries};
 ghost use Rattle.outside.specs.Tree.{IsTree, is_folder, within};
-ghost use Rattle.outside.specs.Walk.{child_in, has_name, kind_of_rest, rest_within, with_entry};
+ghost use Rattle.outside.specs.Walk.{child_in, is_last_name, kind_of_rest, rest_within, with_entry};
 
 use crate::files::files_with_prefix;
 use crate::{DirEntry, EntryKind};
@@ -43,7 +43,7 @@ pub fn entries_of(
     Ok(entries)
 }
 
-/// Adds the entry that a file is, or lies in, unless that is a folder which is there already.
+/// Adds the entry that a file is, or lies in, unless that is the folder which was added last.
 fn add_child(
     alloc: Global,
     entries: &mut Vec<DirEntry>,
@@ -56,7 +56,7 @@ fn add_child(
         return Ok(());
     };
     let (name, kind) = first_entry(rest, file.1.get().len() as u64);
-    if matches!(kind, EntryKind::Folder) && has_name(entries, name) {
+    if matches!(kind, EntryKind::Folder) && is_last_name(entries, name) {
         return Ok(());
     }
     let name = Text::new(alloc, name)?;
@@ -91,14 +91,12 @@ fn first_entry(rest: &str, count: u64) -> (&str, EntryKind)
     }
 }
 
-fn has_name(entries: &[DirEntry], name: &str) -> bool
-    ensures { result ≡ has_name name.now entries.now }
+/// Whether the last entry has the name. The files of one folder stand together, so its entry is the last or isn't there.
+fn is_last_name(entries: &[DirEntry], name: &str) -> bool
+    ensures { result ≡ is_last_name name.now entries.now }
 {
-    // The files of one folder stand together, so its entry is mostly the last.
-    if let Some(last) = entries.last() {
-        if last.name.get() == name {
-            return true;
-        }
-    }
-    entries.iter().any(|entry| entry.name.get() == name)
+    let Some(last) = entries.last() else {
+        return false;
+    };
+    last.name.get() == name
 }

@@ -27,6 +27,5 @@ pub use mem_reader::MemReader;
 pub use mem_sink::MemSink;
 pub use mem_tree::MemTree;
 pub use outside_end::OutsideEnd;
-pub use shared::{is_reader_sent, is_tree_shared};
 pub use tree_end::TreeEnd;
 pub use tree_reader::TreeReader;

@@ -1,7 +1,6 @@
 ghost use Rattle.std.specs.Prelude.{◌≡◌, [], false};
-ghost use Rattle.outside.specs.Cause.{HasCause};
-ghost use Rattle.outside.specs.Failures.{empty, TakesTurn};
-ghost use Rattle.outside.specs.Sinks.{Adds};
+ghost use Rattle.outside.specs.Failures.{empty, sink_view, TakesTurn};
+ghost use Rattle.outside.specs.Sinks.{Puts};
 
 use crate::failure_plan::FailurePlan;
 use crate::{LineSink, OutsideEnd};
@@ -52,15 +51,12 @@ impl MemLines {
 }
 
 impl LineSink for MemLines {
-    ghost use Rattle.std.specs.Prelude.{Some};
+    ghost use Rattle.outside.specs.Failures.{sink_view};
 
-    ghost lines = { λ sink. Some sink.members };
-
-    ghost faults = { λ sink. sink.plan.faults };
+    ghost view = { sink_view };
 
     fn line(&mut self, alloc: Global, text: &[u8]) -> Result<(), OutsideEnd>
-        ensures lines { Adds (Some self.old.members) (Some self.new.members) text.now result }
-        ensures cause { HasCause self.old.plan.faults self.new.plan.faults result }
+        ensures puts { Puts text.now (sink_view self.old) (sink_view self.new) result }
         ensures turn { TakesTurn false self.old.plan self.new.plan result }
     {
         if self.plan.fails_now() {

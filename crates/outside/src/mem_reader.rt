@@ -1,5 +1,4 @@
 ghost use Rattle.std.specs.Prelude.{◌≡◌, ◌≤◌, [], IfOk};
-ghost use Rattle.std.proofs.Common.{ap};
 ghost use Rattle.outside.specs.Cause.{risen};
 ghost use Rattle.outside.specs.Failures.{plan_after};
 ghost use Rattle.outside.specs.Readings.{fails_in};
@@ -19,6 +18,7 @@ pub struct MemReader<'a> {
     plan: FailurePlan,
     paths: Vec<Text>,
     log: Vec<(Text, Why)>,
+    listed: Vec<Text>,
     strays: u64,
     ghost is_tree: { IsTree tree.now },
 }
@@ -50,6 +50,7 @@ impl<'a> MemReader<'a> {
             plan: FailurePlan::new(calls),
             paths,
             log: Vec::new(alloc),
+            listed: Vec::new(alloc),
             strays: 0,
         }
     }
@@ -59,6 +60,13 @@ impl<'a> MemReader<'a> {
         ensures { result.now ≡ (reading self.now).log }
     {
         self.log.as_slice()
+    }
+
+    /// The folders that were listed, in order. Takes no memory.
+    pub fn listed(&self) -> &[Text]
+        ensures { result.now ≡ (reading self.now).listed }
+    {
+        self.listed.as_slice()
     }
 
     /// Counts a call with a path that is not in the tree.
@@ -77,28 +85,19 @@ impl<'a> MemReader<'a> {
 }
 
 impl TreeReader for MemReader<'_> {
-    ghost use Rattle.std.specs.Prelude.{Some, is_some, false, not};
-    ghost use Rattle.outside.specs.Cause.{HasCause};
+    ghost use Rattle.std.specs.Prelude.{is_some, false, not};
     ghost use Rattle.outside.specs.MemReaders.{reading};
-    ghost use Rattle.outside.specs.Readings.{Follows, TakesReaderTurn, fails_in, follows_itself, follows_on, told_tree};
-    ghost use Rattle.outside.specs.Reads.{IsWithin, Lists, Reads, log_after};
-    ghost use Rattle.outside.specs.Tree.{Told, bytes_at, is_folder};
+    ghost use Rattle.outside.specs.Readings.{Follows, TakesReaderTurn, fails_in, follower_keeps, follows_itself, follows_on, reader_view, told_tree};
+    ghost use Rattle.outside.specs.Reads.{ListsFolder, ReadsPath};
+    ghost use Rattle.outside.specs.Tree.{bytes_at, is_folder};
 
-    ghost tree = { λ reader. Some reader.tree.now };
-
-    ghost log = { λ reader. reader.log.items };
-
-    ghost faults = { λ reader. reader.plan.faults };
-
-    ghost strays = { λ reader. reader.strays };
+    ghost view = { λ reader. reader_view (reading reader) };
 
     ghost follows = { λ before now. Follows (reading before) (reading now) };
 
     fn list_dir(&mut self, alloc: Global, path: &str) -> Result<Vec<DirEntry>, OutsideEnd>
         ensures follows { Follows (reading self.old) (reading self.new) }
-        ensures log { self.new.log.items ≡ self.old.log.items }
-        ensures cause { HasCause self.old.plan.faults self.new.plan.faults result }
-        ensures told { Told (Some self.old.tree.now) (λ tree. Lists tree path.now result self.old.strays self.new.strays) }
+        ensures lists { ListsFolder path.now (reader_view (reading self.old)) (reader_view (reading self.new)) result }
         ensures turn { TakesReaderTurn (not (is_folder self.old.tree.now path.now)) false (reading self.old) (reading self.new) result }
     {
         if !self.tree.is_folder(path) {
@@ -109,6 +108,7 @@ impl TreeReader for MemReader<'_> {
             return Err(OutsideEnd::Failed);
         }
         let entries = self.tree.entries(alloc, path)?;
+        self.listed.push(Text::new(alloc, path)?)?;
         self.plan.pass();
         Ok(entries)
     }
@@ -121,10 +121,7 @@ impl TreeReader for MemReader<'_> {
         most: u64,
     ) -> Result<ReadGot, OutsideEnd>
         ensures follows { Follows (reading self.old) (reading self.new) }
-        ensures log { self.new.log.items ≡ log_after result self.old.log.items path.now why }
-        ensures cause { HasCause self.old.plan.faults self.new.plan.faults result }
-        ensures within { IsWithin most result }
-        ensures told { Told (Some self.old.tree.now) (λ tree. Reads tree path.now most result self.old.strays self.new.strays) }
+        ensures reads { ReadsPath path.now why most (reader_view (reading self.old)) (reader_view (reading self.new)) result }
         ensures turn { TakesReaderTurn (not (is_some (bytes_at self.old.tree.now path.now))) (fails_in self.old.paths.items path.now) (reading self.old) (reading self.new) result }
     {
         let Some(bytes) = self.tree.find(path) else {
@@ -148,11 +145,7 @@ impl TreeReader for MemReader<'_> {
 
     ghost follows_on = { λ one two three. follows_on (reading one) (reading two) (reading three) };
 
-    ghost keeps_tree = { λ before now follows. ap (λ tree. Some tree) follows.tree };
-
-    ghost keeps_faults = { λ before now follows. follows.faults };
-
-    ghost keeps_strays = { λ before now follows. follows.strays };
+    ghost keeps = { λ before now. follower_keeps (reading before) (reading now) };
 
     ghost tells_a_tree = { λ reader tree told. told_tree reader.tree.now tree told reader.is_tree };
 }

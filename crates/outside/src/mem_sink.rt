@@ -1,7 +1,6 @@
 ghost use Rattle.std.specs.Prelude.{◌≡◌, [], false};
-ghost use Rattle.outside.specs.Cause.{HasCause};
-ghost use Rattle.outside.specs.Failures.{empty, TakesTurn};
-ghost use Rattle.outside.specs.Sinks.{Adds, asset};
+ghost use Rattle.outside.specs.Failures.{empty, sink_view, TakesTurn};
+ghost use Rattle.outside.specs.Sinks.{Puts, asset};
 
 use crate::failure_plan::FailurePlan;
 use crate::{Asset, AssetSink, OutsideEnd};
@@ -52,15 +51,12 @@ impl MemSink {
 }
 
 impl AssetSink for MemSink {
-    ghost use Rattle.std.specs.Prelude.{Some};
+    ghost use Rattle.outside.specs.Failures.{sink_view};
 
-    ghost held = { λ sink. Some sink.members };
-
-    ghost faults = { λ sink. sink.plan.faults };
+    ghost view = { sink_view };
 
     fn put(&mut self, alloc: Global, name: &str, bytes: &[u8]) -> Result<(), OutsideEnd>
-        ensures held { Adds (Some self.old.members) (Some self.new.members) (asset name.now bytes.now) result }
-        ensures cause { HasCause self.old.plan.faults self.new.plan.faults result }
+        ensures puts { Puts (asset name.now bytes.now) (sink_view self.old) (sink_view self.new) result }
         ensures turn { TakesTurn false self.old.plan self.new.plan result }
     {
         if self.plan.fails_now() {

@@ -41,7 +41,7 @@ impl MemTree {
         }
     }
 
-    /// Adds a file.
+    /// Adds a file, in the time of a search where it is the last in byte order; else all files after it are moved.
     pub fn with(&mut self, alloc: Global, path: &str, bytes: &[u8]) -> Result<(), TreeEnd>
         ensures { Becomes (with_file self.old path.now bytes.now) self.old self.new result }
     {

@@ -3,23 +3,13 @@ use std::alloc::Global;
 
 /// Reads the files and folders of a tree. The root is the folder `""`.
 pub trait TreeReader: Drop {
-    ghost use Rattle.std.specs.Prelude.{◌≡◌, ◌≤◌, ℕ, List, Option, Some};
-    ghost use Rattle.outside.specs.Cause.{HasCause};
-    ghost use Rattle.outside.specs.Reads.{Lists, Reads, IsWithin, log_after};
-    ghost use Rattle.outside.specs.Tree.{Tree, IsTree, Told};
-    ghost use Rattle.outside.specs.declared.entry.Why.{Why};
+    ghost use Rattle.std.specs.Prelude.{◌≡◌, Some};
+    ghost use Rattle.outside.specs.Reads.{ListsFolder, ReadsPath};
+    ghost use Rattle.outside.specs.Tree.{Tree, IsTree};
+    ghost use Rattle.outside.specs.Views.{Keeps, ReaderView};
 
-    /// The tree that it reads, where it is told.
-    ghost tree: { Self → Option Tree };
-
-    /// The paths that were read and what for, in order, where the tree is told.
-    ghost log: { Self → List (List ℕ × Why) };
-
-    /// How often it has failed; the count stands still at the last `u64`.
-    ghost faults: { Self → ℕ };
-
-    /// How often a path was asked for that isn't in the tree.
-    ghost strays: { Self → ℕ };
+    /// What contracts see of it.
+    ghost view: { Self → ReaderView };
 
     /// The second is the first after some calls.
     ghost follows: { Self → Self → Type 0 };
@@ -27,9 +17,7 @@ pub trait TreeReader: Drop {
     /// The entries of a folder, in any order.
     fn list_dir(&mut self, alloc: Global, path: &str) -> Result<Vec<DirEntry>, OutsideEnd>
         ensures follows { follows self.old self.new }
-        ensures log { log self.new ≡ log self.old }
-        ensures cause { HasCause (faults self.old) (faults self.new) result }
-        ensures told { Told (tree self.old) (λ tree. Lists tree path.now result (strays self.old) (strays self.new)) };
+        ensures lists { ListsFolder path.now (view self.old) (view self.new) result };
 
     /// The bytes of a file, where there are at most `most`.
     fn read(
@@ -40,24 +28,17 @@ pub trait TreeReader: Drop {
         most: u64,
     ) -> Result<ReadGot, OutsideEnd>
         ensures follows { follows self.old self.new }
-        ensures log { Told (tree self.old) (λ _. log self.new ≡ log_after result (log self.old) path.now why) }
-        ensures cause { HasCause (faults self.old) (faults self.new) result }
-        ensures within { IsWithin most result }
-        ensures told { Told (tree self.old) (λ tree. Reads tree path.now most result (strays self.old) (strays self.new)) };
+        ensures reads { ReadsPath path.now why most (view self.old) (view self.new) result };
 
     /// The count of faults. Takes no memory.
     fn faults(&self) -> u64
-        ensures { result ≡ faults self.now };
+        ensures { result ≡ (view self.now).faults };
 
     ghost follows_itself: { (a : Self) → follows a a };
 
     ghost follows_on: { (a b c : Self) → follows a b → follows b c → follows a c };
 
-    ghost keeps_tree: { (a b : Self) → follows a b → tree b ≡ tree a };
+    ghost keeps: { (a b : Self) → follows a b → Keeps (view a) (view b) };
 
-    ghost keeps_faults: { (a b : Self) → follows a b → faults a ≤ faults b };
-
-    ghost keeps_strays: { (a b : Self) → follows a b → strays a ≤ strays b };
-
-    ghost tells_a_tree: { (a : Self) (t : Tree) → tree a ≡ Some t → IsTree t };
+    ghost tells_a_tree: { (a : Self) (t : Tree) → (view a).tree ≡ Some t → IsTree t };
 }

@@ -1,95 +1,127 @@
 -- How decisions are put together: what is read, and what is decided.
-use Rattle.std.proofs.Common.{◌≡◌, ◌≢◌, ℕ, ◌<◌, Bool, true, List, [], ◌∷◌, ◌++◌, append-nil, append_assoc, map, length, get_or, refl, sym, ap, subst, ◌∙◌, arith}
-use Rattle.std.proofs.lemmas.Bool.Decides.{Decides-eqb}
-use Rattle.std.proofs.lemmas.List.Elements.{All-from_recursion, recursion_from_All}
-use Rattle.std.proofs.lemmas.List.Kept.{AllPairs-from_increasing}
-use Rattle.std.proofs.lemmas.List.Sorted.{All-permutation, IsPermutation-refl}
-use Rattle.std.proofs.lemmas.Map.Made.{IsDistinct-from_AllPairs}
-use Rattle.std.specs.List.{AllByRecursion, IsDistinct}
-use Rattle.std.specs.List.Sorted.{IsStrictlyIncreasing}
-use Rattle.std.specs.Prelude.{AllPairs, nat_eq, filter, IsPermutation, Result, Ok, Err}
-use Rattle.graph_types.specs.declared.record.ModRecord.{ModRecord}
+use Rattle.std.proofs.Common.{◌≡◌, ◌≤◌, ℕ, List, [], ◌∷◌, ◌++◌, append-nil, append_assoc, inl, inr, refl, sym, ap, ◌∙◌, arith}
+use Rattle.std.proofs.lemmas.List.Sorted.{IsPermutation-refl}
+use Rattle.std.specs.List.{IsDistinct}
+use Rattle.std.specs.Prelude.{nat_eq, IsTrue, Some, None, Result, Ok, Err}
+use Rattle.outside.specs.Cause.{Rose}
+use Rattle.outside.specs.Logs.{AreReadsFor, is_config, is_manifest, is_module, paths_for}
 use Rattle.outside.specs.Tree.{Tree}
+use Rattle.outside.specs.Views.{ReaderView}
 use Rattle.outside.specs.declared.entry.Why.{Why}
-use Rattle.outside.specs.declared.entry.Why.TheVariants.{Config}
-use Rattle.make_rounds.specs.Reads.{file_read, read_of}
-use Rattle.pack_run.specs.Decision.{Decides, DecidesBy}
-use Rattle.pack_run.specs.Reads.{is_module, module_reads, ReadsModules, ReadsNoneTwice}
-use Rattle.pack_run.specs.declared.stop.Stop.{Stop}
+use Rattle.outside.specs.declared.entry.Why.TheVariants.{Config, Module, Manifest}
+use Rattle.outside.specs.declared.outside_end.OutsideEnd.{OutsideEnd}
+use Rattle.outside.specs.declared.outside_end.OutsideEnd.TheVariants.{Failed, NoMemory}
+use Rattle.pack_run.specs.Reads.{NoneTwice, named}
+use Rattle.pack_run.specs.Verdict.{IsMissing, IsVerdict}
+use Rattle.pack_run.specs.Words.{config_path}
+use Rattle.pack_run.specs.inner.Decision.{Decides, DecidesOn, ReadsAll, ReadsFor}
 use Rattle.pack_run.specs.declared.verdict.Verdict.{Verdict}
+use Rattle.pack_run.specs.declared.verdict.Verdict.TheVariants.{Usage}
 
 distinct_none : IsDistinct nat_eq []
 unfolding IsDistinct
 distinct_none = tt
 
-kept_all : (reads : List (List ℕ × Why)) → AllByRecursion (λ read. is_module read.1 ≡ true) reads → module_reads reads ≡ reads
-kept_all [] all = refl
-kept_all (read ∷ reads) all = rw all.0 (ap (λ rest. read ∷ rest) (kept_all reads all.1))
+pub none_twice : (tree : Tree) → NoneTwice tree []
+none_twice tree = ([], distinct_none, refl)
 
-are_modules : (records : List ModRecord) → AllByRecursion (λ read. is_module read.1 ≡ true) (map (λ rec. read_of rec.path) records)
-are_modules [] = tt
-are_modules (rec ∷ records) = (refl, are_modules records)
+no_config_by : (path : List ℕ) (why : Why) (rest : List (List ℕ × Why)) → IsTrue (is_module why) → paths_for is_config rest ≡ [] → paths_for is_config ((path, why) ∷ rest) ≡ []
+no_config_by path Config rest test none = cc
+no_config_by path Module rest test none = none
+no_config_by path Manifest rest test none = cc
 
-files_are_modules : (tree : Tree) (files : List ℕ) → AllByRecursion (λ read. is_module read.1 ≡ true) (map (file_read tree) files)
-files_are_modules tree [] = tt
-files_are_modules tree (file ∷ files) = (refl, files_are_modules tree files)
+no_manifest_by : (path : List ℕ) (why : Why) (rest : List (List ℕ × Why)) → IsTrue (is_module why) → paths_for is_manifest rest ≡ [] → paths_for is_manifest ((path, why) ∷ rest) ≡ []
+no_manifest_by path Config rest test none = cc
+no_manifest_by path Module rest test none = none
+no_manifest_by path Manifest rest test none = cc
 
-shuffled : (reads others : List (List ℕ × Why)) → IsPermutation reads others → AllByRecursion (λ read. is_module read.1 ≡ true) reads → module_reads others ≡ others
-shuffled reads others same all =
-    kept_all others (recursion_from_All _ others (All-permutation (λ read. is_module read.1 ≡ true) reads others same (All-from_recursion _ reads all)))
+-- reads of modules alone are none of the configuration, and none of manifests
+no_config : (reads : List (List ℕ × Why)) → AreReadsFor is_module reads → paths_for is_config reads ≡ []
+no_config [] all = refl
+no_config (read ∷ reads) all = no_config_by read.0 read.1 reads all.0 (no_config reads all.1)
 
-paths_of : (records : List ModRecord) → map read_of (map (λ rec. rec.path) records) ≡ map (λ rec. read_of rec.path) records
-paths_of [] = refl
-paths_of (rec ∷ records) = ap (λ rest. read_of rec.path ∷ rest) (paths_of records)
-
--- the modules of records were read once each
-pub reads_modules : (records : List ModRecord) (reads : List (List ℕ × Why)) → IsPermutation (map (λ rec. read_of rec.path) records) reads → ReadsModules (map (λ rec. rec.path) records) reads
-reads_modules records reads same =
-    rw (paths_of records, shuffled (map (λ rec. read_of rec.path) records) reads same (are_modules records)) same
-
-pub none_twice : (tree : Tree) (files : List ℕ) (reads : List (List ℕ × Why)) → IsDistinct nat_eq files → reads ≡ map (file_read tree) files → ReadsNoneTwice tree reads
-none_twice tree files reads distinct are =
-    let kept : module_reads reads ≡ map (file_read tree) files = ap module_reads are ∙ kept_all (map (file_read tree) files) (files_are_modules tree files) in
-    (files, distinct, subst (IsPermutation (map (file_read tree) files)) (sym kept) (IsPermutation-refl (map (file_read tree) files)))
-
-differ : (x y : ℕ) → x < y → x ≡ y → ⊥
-differ x y below same = omega arith
-
-apart : (files : List ℕ) → AllPairs (λ x y. x < y) files → AllPairs (λ x y. x ≢ y) files
-apart files rise i j d before within = differ (get_or files i d) (get_or files j d) (rise i j d before within)
-
-pub none_twice_in : (tree : Tree) (files : List ℕ) (reads : List (List ℕ × Why)) → IsStrictlyIncreasing files → IsPermutation (map (file_read tree) files) reads → ReadsNoneTwice tree reads
-none_twice_in tree files reads ascending same = (
-  files,
-  IsDistinct-from_AllPairs Decides-eqb files (apart files (AllPairs-from_increasing files ascending)),
-  rw (shuffled (map (file_read tree) files) reads same (files_are_modules tree files)) same,
-)
+no_manifest : (reads : List (List ℕ × Why)) → AreReadsFor is_module reads → paths_for is_manifest reads ≡ []
+no_manifest [] all = refl
+no_manifest (read ∷ reads) all = no_manifest_by read.0 read.1 reads all.0 (no_manifest reads all.1)
 
 module _ (Is : Verdict → List (List ℕ) → Type 0) (tree : Tree) where
-  -- a verdict for which nothing is read
-  pub early : (verdict : Verdict) (log now : List (List ℕ × Why)) → now ≡ log → Is verdict [] → Decides Is tree (Ok verdict) log now
-  early verdict log now same is = ([], same ∙ sym (append-nil log), ([], is, IsPermutation-refl []))
+  -- a verdict for which no module is read
+  pub early : (verdict : Verdict) (before now : ReaderView) → now.log ≡ before.log → now.strays ≡ before.strays → Is verdict [] → DecidesOn Is tree before now (Ok verdict)
+  early verdict before now log strays is = record {
+    no_stray = strays;
+    reads = ([], log ∙ sym (append-nil before.log), (tt, ([], is, IsPermutation-refl [])));
+  }
 
-  -- a stop before anything is read
-  pub stopped : (stop : Stop) (log now : List (List ℕ × Why)) → now ≡ log → Decides Is tree (Err stop) log now
-  stopped stop log now same = ([], same ∙ sym (append-nil log), ([], distinct_none, IsPermutation-refl []))
+  reads_nothing : (end : OutsideEnd) → ReadsFor Is tree (Err end) []
+  reads_nothing Failed = none_twice tree
+  reads_nothing NoMemory = tt
 
-  -- nothing was read before
-  pub later : (result : Result Verdict Stop) (log between now : List (List ℕ × Why)) → between ≡ log → Decides Is tree result between now → Decides Is tree result log now
-  later result log between now same decides = subst (λ log. Decides Is tree result log now) same decides
+  -- an end before any module is read
+  pub stopped : (end : OutsideEnd) (before now : ReaderView) → now.log ≡ before.log → now.strays ≡ before.strays → DecidesOn Is tree before now (Err end)
+  stopped end before now log strays = record {
+    no_stray = strays;
+    reads = ([], log ∙ sym (append-nil before.log), (tt, reads_nothing end));
+  }
 
-  by_config : (config : List ℕ) (result : Result Verdict Stop) (reads : List (List ℕ × Why)) → DecidesBy Is tree result reads → DecidesBy Is tree result ((config, Config) ∷ reads)
-  by_config config (Ok verdict) reads by = by
-  by_config config (Err stop) reads by = by
+  -- no module was read before
+  pub later : (result : Result Verdict OutsideEnd) (before between now : ReaderView) → between.log ≡ before.log → between.strays ≡ before.strays → DecidesOn Is tree between now result → DecidesOn Is tree before now result
+  later result before between now log strays decides = record {
+    no_stray = decides.no_stray ∙ strays;
+    reads = (decides.reads.0, decides.reads.1 ∙ ap (λ log. log ++ decides.reads.0) log, decides.reads.2);
+  }
+
+pub weaker : (Is Was : Verdict → List (List ℕ) → Type 0) (tree : Tree) (before now : ReaderView) (result : Result Verdict OutsideEnd) → ((verdict : Verdict) (paths : List (List ℕ)) → Was verdict paths → Is verdict paths) → DecidesOn Was tree before now result → DecidesOn Is tree before now result
+weaker Is Was tree before now (Ok verdict) step decides =
+    let fact = decides.reads.2 in
+    record { no_stray = decides.no_stray; reads = (decides.reads.0, decides.reads.1, (fact.0, (fact.1.0, step verdict fact.1.0 fact.1.1, fact.1.2))) }
+weaker Is Was tree before now (Err Failed) step decides = record { no_stray = decides.no_stray; reads = decides.reads }
+weaker Is Was tree before now (Err NoMemory) step decides = record { no_stray = decides.no_stray; reads = decides.reads }
+
+module _ (words : List (List ℕ)) (tree : Tree) (config : List ℕ) (names : config_path words ≡ Some config) where
+  named_is : named words ≡ config ∷ []
+  named_is = rw names refl
+
+  once : (reads : List (List ℕ × Why)) → AreReadsFor is_module reads → paths_for is_config ((config, Config) ∷ reads) ≡ named words
+  once reads all = ap (λ rest. config ∷ rest) (no_config reads all) ∙ sym named_is
+
+  all_read : (Is : Verdict → List (List ℕ) → Type 0) → ((verdict : Verdict) (paths : List (List ℕ)) → Is verdict paths → IsVerdict words tree verdict paths) → (result : Result Verdict OutsideEnd) (reads : List (List ℕ × Why)) → AreReadsFor is_module reads → ReadsFor Is tree result reads → ReadsAll words tree result ((config, Config) ∷ reads)
+  all_read Is step (Ok verdict) reads all fact =
+      (fact.0, step verdict fact.0 fact.1, record { config = once reads all; modules = fact.2; others = no_manifest reads all })
+  all_read Is step (Err Failed) reads all fact = (record { config = inr (once reads all); others = no_manifest reads all }, fact)
+  all_read Is step (Err NoMemory) reads all fact = record { config = inr (once reads all); others = no_manifest reads all }
 
   -- the configuration was read before
-  pub after_config : (config : List ℕ) (result : Result Verdict Stop) (log between now : List (List ℕ × Why)) → between ≡ log ++ (config, Config) ∷ [] → Decides Is tree result between now → Decides Is tree result log now
-  after_config config result log between now same decides = (
-    (config, Config) ∷ decides.0,
-    decides.1 ∙ ap (λ log. log ++ decides.0) same ∙ append_assoc log ((config, Config) ∷ []) decides.0,
-    by_config config result decides.0 decides.2,
-  )
+  pub after_config : (Is : Verdict → List (List ℕ) → Type 0) → ((verdict : Verdict) (paths : List (List ℕ)) → Is verdict paths → IsVerdict words tree verdict paths) → (result : Result Verdict OutsideEnd) (before between now : ReaderView) → between.log ≡ before.log ++ (config, Config) ∷ [] → between.strays ≡ before.strays → DecidesOn Is tree between now result → Decides words tree before now result
+  after_config Is step result before between now log strays decides =
+      let reads = decides.reads in
+      record {
+        no_stray = λ there. decides.no_stray ∙ strays;
+        reads = (
+          (config, Config) ∷ reads.0,
+          reads.1 ∙ ap (λ log. log ++ reads.0) log ∙ append_assoc before.log ((config, Config) ∷ []) reads.0,
+          all_read Is step result reads.0 reads.2.0 reads.2.1,
+        );
+      }
 
-pub weaker : (Is Was : Verdict → List (List ℕ) → Type 0) (tree : Tree) (result : Result Verdict Stop) (log now : List (List ℕ × Why)) → ((verdict : Verdict) (paths : List (List ℕ)) → Was verdict paths → Is verdict paths) → Decides Was tree result log now → Decides Is tree result log now
-weaker Is Was tree (Ok verdict) log now step decides = (decides.0, decides.1, (decides.2.0, step verdict decides.2.0 decides.2.1, decides.2.2))
-weaker Is Was tree (Err stop) log now step decides = decides
+read_nothing : (words : List (List ℕ)) (tree : Tree) (end : OutsideEnd) → ReadsAll words tree (Err end) []
+read_nothing words tree Failed = (record { config = inl refl; others = refl }, none_twice tree)
+read_nothing words tree NoMemory = record { config = inl refl; others = refl }
+
+-- an end before anything is read
+pub unread : (words : List (List ℕ)) (tree : Tree) (end : OutsideEnd) (before now : ReaderView) → now.log ≡ before.log → ((IsMissing words tree → ⊥) → now.strays ≡ before.strays) → Decides words tree before now (Err end)
+unread words tree end before now log strays = record { no_stray = strays; reads = ([], log ∙ sym (append-nil before.log), read_nothing words tree end) }
+
+-- the verdict of words outside the grammar, for which nothing is read
+pub usage_read : (words : List (List ℕ)) (tree : Tree) (view : ReaderView) → config_path words ≡ None → Decides words tree view view (Ok Usage)
+usage_read words tree view none = record {
+  no_stray = λ there. refl;
+  reads = (
+    [],
+    sym (append-nil view.log),
+    ([], rw none (record { verdict_is = refl; paths_are = refl }), record { config = rw none refl; modules = IsPermutation-refl []; others = refl }),
+  );
+}
+
+-- a count that rose from a later moment on rose from an earlier one
+pub rose_before : (before between now : ℕ) → before ≤ between → Rose between now → Rose before now
+rose_before before between now low rose = omega arith

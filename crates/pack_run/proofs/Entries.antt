@@ -1,9 +1,9 @@
 -- The files of an entry, by the one that is found or none.
-use Rattle.std.proofs.Common.{◌≡◌, ℕ, ◌<◌, List, [], ◌∷◌, refl}
+use Rattle.std.proofs.Common.{◌≡◌, ℕ, ◌<◌, refl}
 use Rattle.std.specs.List.{AllByRecursion}
 use Rattle.std.specs.Prelude.{Option, Some, None, IfSome, option_map, option_to_list}
 use Rattle.fault_place.specs.declared.number.FileId.{FileId}
-use Rattle.make_rounds.specs.Gathered.{numbers_of}
+use Rattle.make_rounds.specs.inner.Gathered.{numbers_of}
 
 pub numbers-found : (found : Option FileId) → numbers_of (option_to_list found) ≡ option_to_list (option_map (λ file. file.0) found)
 numbers-found None = refl

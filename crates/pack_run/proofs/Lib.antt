@@ -6,3 +6,4 @@ pub mod Jobs
 pub mod Makings
 pub mod Outcomes
 pub mod Readers
+pub mod Uniqueness

@@ -1,32 +1,36 @@
 -- What a command reads (this project).
-use Rattle.std.specs.Prelude.{◌≡◌, ℕ, Bool, true, false, List, [], ◌∷◌, ◌++◌, map, filter, nat_eq, IsPermutation}
+use Rattle.std.specs.Prelude.{◌≡◌, ◌⊎◌, ℕ, List, [], ◌∷◌, ◌++◌, map, nat_eq, option_to_list, IsPermutation}
 use Rattle.std.specs.List.{IsDistinct}
+use Rattle.make_rounds.specs.Reads.{file_path}
+use Rattle.outside.specs.Logs.{is_config, is_manifest, module_paths, paths_for}
 use Rattle.outside.specs.Tree.{Tree}
+use Rattle.outside.specs.Views.{ReaderView}
 use Rattle.outside.specs.declared.entry.Why.{Why}
-use Rattle.outside.specs.declared.entry.Why.TheVariants.{Config, Module, Manifest}
-use Rattle.make_rounds.specs.Reads.{file_read, read_of}
+use Rattle.pack_run.specs.Words.{config_path}
 
-abbrev pub is_module : Why → Bool
-is_module Config = false
-is_module Module = true
-is_module Manifest = false
+-- the configuration that the words name, if they do
+abbrev pub named : List (List ℕ) → List (List ℕ)
+named words = option_to_list (config_path words)
 
--- the reads of modules among reads
-abbrev pub module_reads : List (List ℕ × Why) → List (List ℕ × Why)
-module_reads reads = filter (λ read. is_module read.1) reads
+-- The configuration is read once, these files once each as modules, and nothing else.
+pub record ReadsBuild (words paths : List (List ℕ)) (reads : List (List ℕ × Why)) : Type 0 where
+  pub config : paths_for is_config reads ≡ named words
+  pub modules : IsPermutation paths (module_paths reads)
+  pub others : paths_for is_manifest reads ≡ []
 
--- these files are read as modules, each once, and no others are
-abbrev pub ReadsModules : List (List ℕ) → List (List ℕ × Why) → Type 0
-ReadsModules paths reads = IsPermutation (map read_of paths) (module_reads reads)
+-- The configuration is read once or not at all, and nothing else but modules.
+pub record ReadsInPart (words : List (List ℕ)) (reads : List (List ℕ × Why)) : Type 0 where
+  pub config : (paths_for is_config reads ≡ []) ⊎ (paths_for is_config reads ≡ named words)
+  pub others : paths_for is_manifest reads ≡ []
 
--- no file is read twice as a module
-abbrev pub ReadsNoneTwice : Tree → List (List ℕ × Why) → Type 0
-ReadsNoneTwice tree reads = (files : List ℕ) × IsDistinct nat_eq files × IsPermutation (map (file_read tree) files) (module_reads reads)
+-- no file of the tree is read twice as a module
+abbrev pub NoneTwice : Tree → List (List ℕ × Why) → Type 0
+NoneTwice tree reads = (files : List ℕ) × IsDistinct nat_eq files × (module_paths reads ≡ map (file_path tree) files)
 
 -- the reads that the readers' logs have gained, from the first reader on
-abbrev pub LogsGain : {R : Type 0} → (R → List (List ℕ × Why)) → List R → List R → List (List ℕ × Why) → Type 0
-LogsGain log [] [] gained = gained ≡ []
-LogsGain log [] (new ∷ news) gained = ⊥
-LogsGain log (old ∷ olds) [] gained = ⊥
-LogsGain log (old ∷ olds) (new ∷ news) gained =
-    (own : List (List ℕ × Why)) × (rest : List (List ℕ × Why)) × (log new ≡ log old ++ own) × (gained ≡ own ++ rest) × LogsGain log olds news rest
+abbrev pub LogsGain : {R : Type 0} → (R → ReaderView) → List R → List R → List (List ℕ × Why) → Type 0
+LogsGain view [] [] gained = gained ≡ []
+LogsGain view [] (new ∷ news) gained = ⊥
+LogsGain view (old ∷ olds) [] gained = ⊥
+LogsGain view (old ∷ olds) (new ∷ news) gained =
+    (own : List (List ℕ × Why)) × (rest : List (List ℕ × Why)) × ((view new).log ≡ (view old).log ++ own) × (gained ≡ own ++ rest) × LogsGain view olds news rest

@@ -1,19 +1,19 @@
--- What a build of a tree comes to (this project): the first that applies of usage, a missing configuration, a bad one, an
--- exceeded limit, faults, and the assets.
+-- What a build of a tree comes to (this project): the first that applies of usage, a bad configuration, an exceeded limit,
+-- faults, and the assets. A build whose configuration isn't in the tree comes to nothing: the read of it fails.
 use Rattle.std.specs.Prelude.{◌≡◌, ℕ, ◌⊎◌, List, [], ◌∷◌, ◌++◌, map, length, slice_index_or, codes, decimal, Option, Some, None, option_and_then, option_to_list, Result, Ok, Err}
 use Rattle.std.specs.Result.{result_ok}
 use Rattle.chunk_code.specs.Texts.{entry_text}
 use Rattle.fault_place.specs.declared.fault.Fault.{Fault}
-use Rattle.fault_place.specs.declared.fault.FaultKind.{FaultKind}
 use Rattle.fault_place.specs.declared.fault.FaultKind.TheVariants.{Unresolved}
 use Rattle.fault_place.specs.declared.limit.Limit.{Limit}
 use Rattle.fault_place.specs.declared.place.Place.{Place}
 use Rattle.fault_place.specs.Fault.{line_of, in_order}
 use Rattle.fault_place.specs.Limit.{name_of, number_of}
 use Rattle.fault_place.specs.Place.{place_in}
+use Rattle.graph_types.specs.Graphs.{IsGraphOf}
 use Rattle.graph_types.specs.Modules.{Graph}
 use Rattle.graph_types.specs.declared.record.ModRecord.{ModRecord}
-use Rattle.make_rounds.specs.Graph.{IsGraphOf}
+use Rattle.make_rounds.specs.Record.{record_of}
 use Rattle.module_code.specs.ModuleText.{record_text}
 use Rattle.path_text.specs.Path.{join_of}
 use Rattle.outside.specs.Tree.{Tree, bytes_at}
@@ -22,7 +22,7 @@ use Rattle.outside.specs.declared.asset_sink.Asset.{Asset}
 use Rattle.stats_text.specs.Stats.{stats_text_of}
 use Rattle.tree_listing.specs.Limits.{Exceeds}
 use Rattle.tree_listing.specs.Listing.{lengths_of, number_at}
-use Rattle.pack_run.specs.Config.{config_of, entry_offset}
+use Rattle.pack_run.specs.Config.{Configured, config_of, entry_offset}
 use Rattle.pack_run.specs.Words.{config_path}
 use Rattle.pack_run.specs.declared.config.ConfigKind.{ConfigKind}
 use Rattle.pack_run.specs.declared.config.ConfigKind.TheVariants.{TooLong as ConfigTooLong, NotYet as ConfigNotYet}
@@ -30,7 +30,7 @@ use Rattle.pack_run.specs.declared.end.End.{End}
 use Rattle.pack_run.specs.declared.end.End.TheVariants as ends
 use Rattle.pack_run.specs.declared.verdict.Build.{Build}
 use Rattle.pack_run.specs.declared.verdict.Verdict.{Verdict}
-use Rattle.pack_run.specs.declared.verdict.Verdict.TheVariants.{Usage, Missing, Config, Limit as Over, Faults, Built}
+use Rattle.pack_run.specs.declared.verdict.Verdict.TheVariants.{Usage, Config, Limit as Over, Faults, Built}
 
 -- the first place of a file
 abbrev pub start_of : List ℕ → Place
@@ -63,18 +63,21 @@ abbrev pub entry_file : List (List ℕ × ℕ) → List ℕ → Option ℕ
 entry_file files request = option_and_then (number_at files) (result_ok (join_of [] request))
 
 -- the fault of an entry whose request names no file
-abbrev pub unresolved : List ℕ → List ℕ → List ℕ → Fault
-unresolved config text request = record { place = place_in config text entry_offset; kind = Unresolved; detail = request }
+abbrev pub unresolved : Configured → Fault
+unresolved config = record { place = place_in config.path config.text entry_offset; kind = Unresolved; detail = config.request }
 
-abbrev pub entry_faults : List ℕ → List ℕ → List ℕ → Option ℕ → List Fault
-entry_faults config text request None = unresolved config text request ∷ []
-entry_faults config text request (Some file) = []
+abbrev pub entry_faults : Configured → Option ℕ → List Fault
+entry_faults config None = unresolved config ∷ []
+entry_faults config (Some file) = []
 
--- The graph of the entry's file, or of none where its request names none, gives the faults in their order or the assets.
--- The modules have these paths.
-pub record IsOutcome (tree : Tree) (config text request : List ℕ) (verdict : Verdict) (paths : List (List ℕ)) : Type 0 where
+-- the files of the entry: one, or none where its request names none
+abbrev pub entry_files : Tree → Configured → List ℕ
+entry_files tree config = option_to_list (entry_file (lengths_of tree) config.request)
+
+-- The graph of the entry gives the faults in their order or the assets. The modules have these paths.
+pub record IsOutcome (tree : Tree) (config : Configured) (verdict : Verdict) (paths : List (List ℕ)) : Type 0 where
   pub graph : Graph
-  pub graph_is : IsGraphOf tree (option_to_list (entry_file (lengths_of tree) request)) (entry_faults config text request (entry_file (lengths_of tree) request)) graph
+  pub graph_is : IsGraphOf (record_of tree) (entry_files tree config ∷ []) (entry_faults config (entry_file (lengths_of tree) config.request)) graph
   pub verdict_is : verdict ≡ outcome_of graph
   pub paths_are : paths ≡ map (λ rec. rec.path) graph.records
 
@@ -88,11 +91,11 @@ abbrev pub IsConfigVerdict : Tree → List ℕ → List ℕ → Result (List ℕ
 IsConfigVerdict tree config text (Err kind) verdict paths = IsEarly (Config (start_of config) kind) verdict paths
 IsConfigVerdict tree config text (Ok request) verdict paths =
     ((limit : Limit) × Exceeds tree limit × IsEarly (Over limit) verdict paths)
-    ⊎ (((limit : Limit) → ¬ Exceeds tree limit) × IsOutcome tree config text request verdict paths)
+    ⊎ (((limit : Limit) → ¬ Exceeds tree limit) × IsOutcome tree (record { path = config; text = text; request = request }) verdict paths)
 
 -- the configuration's bytes, where it is in the tree
 abbrev pub IsTextVerdict : Tree → List ℕ → Option (List ℕ) → Verdict → List (List ℕ) → Type 0
-IsTextVerdict tree config None verdict paths = IsEarly Missing verdict paths
+IsTextVerdict tree config None verdict paths = ⊥
 IsTextVerdict tree config (Some text) verdict paths = IsConfigVerdict tree config text (config_of text) verdict paths
 
 abbrev pub IsJobVerdict : Tree → Option (List ℕ) → Verdict → List (List ℕ) → Type 0
@@ -138,7 +141,6 @@ built_line build =
 -- the lines that a verdict is printed as
 abbrev pub lines_of : Verdict → List (List ℕ)
 lines_of Usage = codes "usage: chunkpack build CONFIG" ∷ []
-lines_of Missing = codes "read failed" ∷ []
 lines_of (Config place kind) = config_line place kind ∷ []
 lines_of (Over limit) = limit_line limit ∷ []
 lines_of (Faults faults) = map line_of faults ++ count_line (length faults) ∷ []
@@ -147,7 +149,6 @@ lines_of (Built build) = built_line build ∷ []
 -- the assets that a verdict writes
 abbrev pub assets_of : Verdict → List Asset
 assets_of Usage = []
-assets_of Missing = []
 assets_of (Config place kind) = []
 assets_of (Over limit) = []
 assets_of (Faults faults) = []
@@ -156,7 +157,6 @@ assets_of (Built build) = build.assets
 -- the end that tells a verdict
 abbrev pub end_of : Verdict → End
 end_of Usage = ends.Usage
-end_of Missing = ends.ReadFault
 end_of (Config place kind) = ends.Config
 end_of (Over limit) = ends.Limit limit
 end_of (Faults faults) = ends.Faults (length faults)

@@ -1,11 +1,15 @@
-ghost use Rattle.std.specs.Prelude.{◌≡◌, ◌≤◌, length, OnSome, IfSome};
+ghost use Rattle.std.specs.Prelude.{◌≡◌, ◌≤◌, length, OnSome, IfOk, IfSome};
+ghost use Rattle.fault_place.specs.Place.{place_in};
 ghost use Rattle.std.specs.Option.{option_copied};
-ghost use Rattle.pack_run.specs.Config.{after_front, before_end, entry_of, entry_offset};
+ghost use Rattle.pack_run.specs.Config.{after_front, before_end, configured, entry_of, entry_offset};
 
+use fault_place::{NoMemory, Place, place_at};
 use make_rounds::plain_request;
+use std::alloc::Global;
+use std::marker::Model;
 
 /// Where the quote of the entry's request stands.
-pub const ENTRY_OFFSET: u64 = 9;
+const ENTRY_OFFSET: u64 = 9;
 
 /// Why a text is no configuration.
 #[derive(Clone, Copy, Debug, PartialEq, Eq)]
@@ -39,7 +43,7 @@ fn before_end<'a>(text: &'a [u8], end: &[u8]) -> Option<&'a [u8]>
 }
 
 /// The request of the entry, where the text is a configuration.
-pub fn entry_of(text: &[u8]) -> Option<&str>
+fn entry_of(text: &[u8]) -> Option<&str>
     ensures value { option_copied result ≡ entry_of text.now }
     ensures long { OnSome result (entry_offset ≤ length text.now) }
 {
@@ -47,4 +51,50 @@ pub fn entry_of(text: &[u8]) -> Option<&str>
     let rest = after_front(line, b"{\"entry\":\"")?;
     let request = before_end(rest, b"\"}")?;
     plain_request(request)
+}
+
+/// A configuration: its path, its text, and the request of its entry.
+#[derive(Drop)]
+pub(crate) struct Configuration<'a> {
+    path: &'a str,
+    text: &'a [u8],
+    request: &'a str,
+}
+
+impl<'a> Model for Configuration<'a> {
+    ghost use Rattle.std.specs.Prelude.{◌≤◌, length};
+    ghost use Rattle.pack_run.specs.Config.{Configured, entry_offset};
+
+    ghost Value = { Configured };
+
+    ghost view = { λ config. record { path = config.path.now; text = config.text.now; request = config.request.now } };
+
+    ghost invariant = { λ config. entry_offset ≤ length config.text.now };
+}
+
+impl<'a> Configuration<'a> {
+    /// The configuration that the text at a path is.
+    pub(crate) fn new(path: &'a str, text: &'a [u8]) -> Option<Configuration<'a>>
+        ensures { result ≡ configured path.now text.now }
+    {
+        let request = entry_of(text)?;
+        Some(Configuration {
+            path,
+            text,
+            request,
+        })
+    }
+
+    pub(crate) fn request(&self) -> &str
+        ensures { result.now ≡ self.now.request }
+    {
+        self.request
+    }
+
+    /// The place of the entry's request.
+    pub(crate) fn entry_place(&self, alloc: Global) -> Result<Place, NoMemory>
+        ensures { IfOk result (λ place. place ≡ place_in self.now.path self.now.text entry_offset) }
+    {
+        place_at(alloc, self.path, self.text, ENTRY_OFFSET)
+    }
 }

@@ -1,20 +1,18 @@
-//! The file of the entry.
-ghost use Rattle.std.specs.Prelude.{◌≡◌, ◌<◌, ◌≤◌, length, option_map, option_to_list, IfOk, IfSome};
-ghost use Rattle.tree_listing.specs.Listing.{number_at};
-ghost use Rattle.pack_run.specs.Config.{entry_offset};
-ghost use Rattle.pack_run.specs.Entry.{IsEntry};
+//! The files of the entry.
+ghost use Rattle.std.specs.Prelude.{◌≡◌, ◌<◌, ◌∷◌, [], length, option_map, option_to_list, IfOk, IfSome};
+ghost use Rattle.pack_run.specs.inner.Entry.{IsEntry};
 ghost use Rattle.pack_run.specs.Verdict.{entry_faults, entry_file};
 
-use crate::config::ENTRY_OFFSET;
-use fault_place::{Fault, FaultKind, FileId, NoMemory, Seq, Text, place_at};
+use crate::config::Configuration;
+use fault_place::{Fault, FaultKind, FileId, NoMemory, Seq, Text};
 use path_text::{PathEnd, join};
 use std::alloc::{AllocError, Global};
 use tree_listing::Listing;
 
-/// What an entry's request names: its file, or the fault of naming none.
+/// What the requests of entries name: the files of each, and the faults of those that name none.
 #[derive(Drop)]
 pub struct Entry {
-    pub files: Seq<FileId>,
+    pub entries: Vec<Seq<FileId>>,
     pub faults: Vec<Fault>,
 }
 
@@ -33,49 +31,45 @@ fn entry_file(alloc: Global, listing: &Listing, request: &str) -> Result<Option<
 /// The fault of an entry whose request names no file.
 fn entry_faults(
     alloc: Global,
-    config: &str,
-    text: &[u8],
-    request: &str,
+    config: &Configuration<'_>,
     found: Option<FileId>,
 ) -> Result<Vec<Fault>, NoMemory>
-    requires { entry_offset ≤ length text.now }
-    ensures { IfOk result (λ faults. faults.items ≡ entry_faults config.now text.now request.now (option_map (λ file. file.0) found)) }
+    ensures { IfOk result (λ faults. faults.items ≡ entry_faults config.now (option_map (λ file. file.0) found)) }
 {
     let mut faults = Vec::new(alloc);
     if found.is_none() {
         faults.push(Fault {
-            place: place_at(alloc, config, text, ENTRY_OFFSET)?,
+            place: config.entry_place(alloc)?,
             kind: FaultKind::Unresolved,
-            detail: Text::new(alloc, request)?,
+            detail: Text::new(alloc, config.request())?,
         })?;
     }
     Ok(faults)
 }
 
-/// The entry's files: the one, or none.
-fn entry_files(alloc: Global, found: Option<FileId>) -> Result<Seq<FileId>, NoMemory>
-    ensures { IfOk result (λ files. files ≡ option_to_list found) }
+/// The files of the one entry: the one, or none.
+fn entry_files(alloc: Global, found: Option<FileId>) -> Result<Vec<Seq<FileId>>, NoMemory>
+    ensures { IfOk result (λ entries. entries.items ≡ option_to_list found ∷ []) }
 {
     let mut files = Seq::new(alloc);
     if let Some(file) = found {
         files.push(file)?;
     }
-    Ok(files)
+    let mut entries = Vec::new(alloc);
+    entries.push(files)?;
+    Ok(entries)
 }
 
 pub fn find_entry(
     alloc: Global,
     listing: &Listing,
-    config: &str,
-    text: &[u8],
-    request: &str,
+    config: &Configuration<'_>,
 ) -> Result<Entry, NoMemory>
-    requires { entry_offset ≤ length text.now }
-    ensures { IfOk result (IsEntry listing.now.files config.now text.now request.now) }
+    ensures { IfOk result (IsEntry listing.now.files config.now) }
 {
-    let found = entry_file(alloc, listing, request)?;
+    let found = entry_file(alloc, listing, config.request())?;
     Ok(Entry {
-        files: entry_files(alloc, found)?,
-        faults: entry_faults(alloc, config, text, request, found)?,
+        entries: entry_files(alloc, found)?,
+        faults: entry_faults(alloc, config, found)?,
     })
 }

@@ -5,10 +5,10 @@ mod config;
 mod decide;
 mod end;
 mod entry;
+pub mod laws;
 mod outcome;
 mod output;
 mod report;
-mod stop;
 mod top;
 mod verdict;
 mod verdict_lines;
@@ -18,3 +18,6 @@ pub use config::ConfigKind;
 pub use end::End;
 pub use top::run;
 pub use verdict::{Build, Verdict};
+
+/// How many readers a command is handed: one for each worker that a build may have.
+pub const READERS: u32 = 32;

@@ -2,15 +2,15 @@
 ghost use Rattle.std.specs.Prelude.{◌≡◌, ◌<◌, ◌≤◌, ◌^◌, ◌∷◌, [], codes, length, IfOk};
 ghost use Rattle.std.specs.List.{AllByRecursion};
 ghost use Rattle.fault_place.specs.Fault.{in_order};
+ghost use Rattle.graph_types.specs.Fits.{HoldsWholeRecords};
 ghost use Rattle.graph_types.specs.Whole.{IsWhole};
 ghost use Rattle.outside.specs.Sinks.{asset};
-ghost use Rattle.pack_run.specs.Decision.{IsFit};
-ghost use Rattle.pack_run.specs.Report.{CanReport};
+ghost use Rattle.pack_run.specs.Report.{CanReport, IsOfBuild};
 ghost use Rattle.pack_run.specs.Verdict.{build_of, module_texts, outcome_of};
 
 use crate::{Build, Verdict};
 use chunk_code::entry_text;
-use fault_place::{Bytes, Fault, ModuleNo, NoMemory, Seq, Text, sort_faults};
+use fault_place::{Bytes, Fault, MAX_TEXT, ModuleNo, NoMemory, Seq, Text, sort_faults};
 use graph_types::ModuleGraph;
 use module_code::module_text;
 use outside::Asset;
@@ -40,7 +40,7 @@ fn texts(alloc: Global, graph: &ModuleGraph) -> Result<Vec<Bytes>, NoMemory>
 fn build(alloc: Global, graph: &ModuleGraph) -> Result<Build, NoMemory>
     requires entry { length graph.now.roots ≡ 1 }
     requires whole { AllByRecursion IsWhole graph.now.records }
-    requires sizes { AllByRecursion (λ rec. rec.size ≤ 4_194_304) graph.now.records }
+    requires sizes { AllByRecursion (λ rec. rec.size ≤ MAX_TEXT) graph.now.records }
     ensures { IfOk result (λ made. made ≡ build_of graph.now) }
 {
     let texts = texts(alloc, graph)?;
@@ -79,9 +79,10 @@ fn in_order(alloc: Global, faults: &[Fault]) -> Result<Seq<Fault>, NoMemory>
 }
 
 pub fn outcome(alloc: Global, graph: &ModuleGraph) -> Result<Verdict, NoMemory>
-    requires { IsFit graph.now }
+    requires { HoldsWholeRecords 1 graph.now }
     ensures value { IfOk result (λ verdict. verdict ≡ outcome_of graph.now) }
     ensures reportable { IfOk result CanReport }
+    ensures build { IfOk result IsOfBuild }
 {
     match graph.faults() {
         [] => Ok(Verdict::Built(build(alloc, graph)?)),

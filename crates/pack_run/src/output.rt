@@ -1,8 +1,7 @@
 //! Assets and lines, handed out in order until one is refused.
 ghost use Rattle.std.specs.Prelude.{◌≡◌, OnOk, OnErr};
 ghost use Rattle.outside.specs.Cause.{HasCause};
-ghost use Rattle.outside.specs.Sinks.{HasAdded};
-ghost use Rattle.pack_run.specs.Report.{AddsProperFront};
+ghost use Rattle.pack_run.specs.Report.{Adds, AddsProperFront};
 
 use fault_place::Bytes;
 use outside::{Asset, AssetSink, LineSink, OutsideEnd};
@@ -14,9 +13,9 @@ pub fn put_all<S: AssetSink>(
     sink: &mut S,
     assets: &[Asset],
 ) -> Result<(), OutsideEnd>
-    ensures held { OnOk result (HasAdded (S.held sink.old) (S.held sink.new) assets.now) }
-    ensures front { OnErr result (AddsProperFront (S.held sink.old) (S.held sink.new) assets.now) }
-    ensures cause { HasCause (S.faults sink.old) (S.faults sink.new) result }
+    ensures held { OnOk result (Adds (S.view sink.old) (S.view sink.new) assets.now) }
+    ensures front { OnErr result (AddsProperFront (S.view sink.old) (S.view sink.new) assets.now) }
+    ensures cause { HasCause (S.view sink.old).faults (S.view sink.new).faults result }
 {
     for asset in assets {
         sink.put(alloc, asset.name.get(), asset.bytes.get())?;
@@ -30,9 +29,9 @@ pub fn print_all<L: LineSink>(
     lines: &mut L,
     texts: &[Bytes],
 ) -> Result<(), OutsideEnd>
-    ensures lines { OnOk result (HasAdded (L.lines lines.old) (L.lines lines.new) texts.now) }
-    ensures front { OnErr result (AddsProperFront (L.lines lines.old) (L.lines lines.new) texts.now) }
-    ensures cause { HasCause (L.faults lines.old) (L.faults lines.new) result }
+    ensures lines { OnOk result (Adds (L.view lines.old) (L.view lines.new) texts.now) }
+    ensures front { OnErr result (AddsProperFront (L.view lines.old) (L.view lines.new) texts.now) }
+    ensures cause { HasCause (L.view lines.old).faults (L.view lines.new).faults result }
 {
     for text in texts {
         lines.line(alloc, text.get())?;

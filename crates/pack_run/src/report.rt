@@ -1,8 +1,7 @@
-ghost use Rattle.std.specs.Prelude.{◌≡◌, ◌≢◌, ◌≤◌, OnOk, OnErr};
+ghost use Rattle.std.specs.Prelude.{◌≡◌, ◌≢◌, [], OnOk, OnErr};
 ghost use Rattle.outside.specs.Cause.{Rose, HasCause};
-ghost use Rattle.outside.specs.Sinks.{HasAdded};
 ghost use Rattle.pack_run.specs.End.{OnNothingPut};
-ghost use Rattle.pack_run.specs.Report.{Reports, AddsProperFront, CanReport};
+ghost use Rattle.pack_run.specs.Report.{Adds, AddsProperFront, CanReport, Leaves, MayEnd, Reports};
 ghost use Rattle.pack_run.specs.Verdict.{end_of, assets_of};
 
 use crate::output::{print_all, put_all};
@@ -17,7 +16,6 @@ fn end_of(verdict: &Verdict) -> End
 {
     match verdict {
         Verdict::Usage => End::Usage,
-        Verdict::Missing => End::ReadFault,
         Verdict::Config { .. } => End::Config,
         Verdict::Limit(limit) => End::Limit(*limit),
         Verdict::Faults(faults) => End::Faults(faults.as_slice().len() as u32),
@@ -31,10 +29,11 @@ fn put_assets<S: AssetSink>(
     verdict: &Verdict,
     sink: &mut S,
 ) -> Result<(), OutsideEnd>
-    ensures held { OnOk result (HasAdded (S.held sink.old) (S.held sink.new) (assets_of verdict.now)) }
-    ensures cause { HasCause (S.faults sink.old) (S.faults sink.new) result }
-    ensures front { OnErr result (AddsProperFront (S.held sink.old) (S.held sink.new) (assets_of verdict.now)) }
-    ensures nothing { OnNothingPut (end_of verdict.now) (S.held sink.new ≡ S.held sink.old) }
+    ensures held { OnOk result (Adds (S.view sink.old) (S.view sink.new) (assets_of verdict.now)) }
+    ensures cause { HasCause (S.view sink.old).faults (S.view sink.new).faults result }
+    ensures front { OnErr result (AddsProperFront (S.view sink.old) (S.view sink.new) (assets_of verdict.now)) }
+    ensures some { OnErr result (assets_of verdict.now ≢ []) }
+    ensures nothing { OnNothingPut (end_of verdict.now) (Leaves (S.view sink.old) (S.view sink.new)) }
 {
     match verdict {
         Verdict::Built(build) => put_all(alloc, sink, build.assets.as_slice()),
@@ -50,12 +49,11 @@ pub fn report<S: AssetSink, L: LineSink>(
     lines: &mut L,
 ) -> End
     requires { CanReport verdict.now }
-    ensures reports { Reports verdict.now (S.held sink.old) (S.held sink.new) (L.lines lines.old) (L.lines lines.new) result }
-    ensures never_reads { result ≢ End.ReadFault }
-    ensures write_cause { result ≡ End.WriteFault → Rose (S.faults sink.old) (S.faults sink.new) }
-    ensures line_cause { result ≡ End.LineFault → Rose (L.faults lines.old) (L.faults lines.new) }
-    ensures nothing { OnNothingPut (end_of verdict.now) (S.held sink.new ≡ S.held sink.old) }
-    ensures lines_fall { L.faults lines.old ≤ L.faults lines.new }
+    ensures reports { Reports verdict.now (S.view sink.old) (S.view sink.new) (L.view lines.old) (L.view lines.new) result }
+    ensures end { MayEnd verdict.now result }
+    ensures write_cause { result ≡ End.WriteFault → Rose (S.view sink.old).faults (S.view sink.new).faults }
+    ensures line_cause { result ≡ End.LineFault → Rose (L.view lines.old).faults (L.view lines.new).faults }
+    ensures nothing { OnNothingPut (end_of verdict.now) (Leaves (S.view sink.old) (S.view sink.new)) }
 {
     match put_assets(alloc, verdict, sink) {
         Ok(()) => {}

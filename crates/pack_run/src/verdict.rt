@@ -7,8 +7,6 @@ use outside::Asset;
 pub enum Verdict {
     /// The words aren't those of a build.
     Usage,
-    /// The configuration isn't in the tree.
-    Missing,
     /// The configuration's text has no meaning.
     Config { place: Place, kind: ConfigKind },
     /// The tree exceeds a limit.

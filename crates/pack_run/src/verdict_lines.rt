@@ -4,8 +4,8 @@ ghost use Rattle.fault_place.specs.Limit.{name_of, number_of};
 ghost use Rattle.pack_run.specs.Verdict.{kind_name, lines_of, config_line, limit_line, count_line, built_line};
 
 use crate::{Build, ConfigKind, Verdict};
-use append_text::{add, add_around, add_number};
 use fault_place::{Bytes, Fault, Limit, NoMemory, Place, fault_line};
+use pack_util::{add, add_around, add_number};
 use std::alloc::Global;
 
 fn kind_name(kind: ConfigKind) -> &'static [u8]
@@ -91,7 +91,6 @@ pub fn verdict_lines(alloc: Global, verdict: &Verdict) -> Result<Vec<Bytes>, NoM
 {
     match verdict {
         Verdict::Usage => one(alloc, Bytes::new(alloc, b"usage: chunkpack build CONFIG")?),
-        Verdict::Missing => one(alloc, Bytes::new(alloc, b"read failed")?),
         Verdict::Config { place, kind } => one(alloc, config_line(alloc, place, *kind)?),
         Verdict::Limit(limit) => one(alloc, limit_line(alloc, *limit)?),
         Verdict::Faults(faults) => fault_lines(alloc, faults.as_slice()),

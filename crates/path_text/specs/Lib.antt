@@ -1,4 +1,3 @@
-pub mod Answers
 pub mod Child
 pub mod Message
 pub mod Path

@@ -1,7 +1,8 @@
 ghost use Rattle.std.specs.Prelude.{◌≡◌, IfOk, ok_or, string_bytes};
 ghost use Rattle.path_text.specs.declared.path_end.PathEnd.TheVariants.{Above};
 ghost use Rattle.std.specs.List.{list_all, list_any};
-ghost use Rattle.path_text.specs.Answers.{Answers};
+ghost use Rattle.pack_util.specs.Answers.{Answers};
+ghost use Rattle.path_text.specs.declared.path_end.PathEnd.TheVariants.{NoMemory};
 ghost use Rattle.path_text.specs.Path.{IsFolderPath, folder_segments, is_forbidden, is_here, is_name, is_normal, join_of, normal_of, parent_of, segments, step_from, texts, walk_from};
 
 use crate::path_end::PathEnd;
@@ -9,7 +10,7 @@ use std::alloc::{AllocError, Global};
 
 /// The normal path that a text names from the root.
 pub fn normal(alloc: Global, text: &str) -> Result<String, PathEnd>
-    ensures answer { Answers string_bytes (normal_of text.now) result }
+    ensures answer { Answers NoMemory string_bytes (normal_of text.now) result }
     ensures normal { IfOk result (λ path. IsFolderPath (string_bytes path)) }
 {
     join(alloc, "", text)
@@ -18,7 +19,7 @@ pub fn normal(alloc: Global, text: &str) -> Result<String, PathEnd>
 /// The normal path that `rest` names from a folder.
 pub fn join(alloc: Global, folder: &str, rest: &str) -> Result<String, PathEnd>
     requires { IsFolderPath folder.now }
-    ensures answer { Answers string_bytes (join_of folder.now rest.now) result }
+    ensures answer { Answers NoMemory string_bytes (join_of folder.now rest.now) result }
     ensures normal { IfOk result (λ path. IsFolderPath (string_bytes path)) }
 {
     if has_forbidden(rest) {
@@ -71,7 +72,7 @@ fn split_folder(alloc: Global, folder: &str) -> Result<Vec<&str>, AllocError>
 }
 
 fn walk<'a>(kept: &mut Vec<&'a str>, text: &'a str) -> Result<(), PathEnd>
-    ensures { Answers (λ _. texts kept.new.items)
+    ensures { Answers NoMemory (λ _. texts kept.new.items)
         (ok_or (walk_from (texts kept.old.items) (segments text.now)) Above) result }
 {
     for segment in text.split('/') {
@@ -81,7 +82,7 @@ fn walk<'a>(kept: &mut Vec<&'a str>, text: &'a str) -> Result<(), PathEnd>
 }
 
 fn step<'a>(kept: &mut Vec<&'a str>, segment: &'a str) -> Result<(), PathEnd>
-    ensures { Answers (λ _. texts kept.new.items)
+    ensures { Answers NoMemory (λ _. texts kept.new.items)
         (ok_or (step_from (texts kept.old.items) segment.now) Above) result }
 {
     match segment {

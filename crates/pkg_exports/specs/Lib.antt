@@ -1,4 +1,3 @@
-pub mod Answers
 pub mod Exports
 pub mod Keys
 pub mod Segments

@@ -1,6 +1,7 @@
 ghost use Rattle.std.specs.Prelude.{◌≡◌};
 ghost use Rattle.std.specs.List.{list_all, list_any};
-ghost use Rattle.pkg_exports.specs.Answers.{Answers};
+ghost use Rattle.pack_util.specs.Answers.{Answers};
+ghost use Rattle.pkg_exports.specs.declared.exports_end.ExportsEnd.TheVariants.{NoMemory};
 ghost use Rattle.pkg_exports.specs.Exports.{answer_of, object_target, root_target, target_of};
 ghost use Rattle.pkg_exports.specs.Keys.{begins_with_dot};
 
@@ -42,7 +43,7 @@ fn root_target(
     subpath: &str,
     conditions: &[Text],
 ) -> Result<Option<Text>, ExportsEnd>
-    ensures { Answers (root_target exports.now subpath.now conditions.now) result }
+    ensures { Answers NoMemory (λ value. value) (root_target exports.now subpath.now conditions.now) result }
 {
     if subpath != "." {
         return Ok(None);
@@ -57,7 +58,7 @@ fn object_target(
     subpath: &str,
     conditions: &[Text],
 ) -> Result<Option<Text>, ExportsEnd>
-    ensures { Answers (object_target exports.now pairs.now subpath.now conditions.now) result }
+    ensures { Answers NoMemory (λ value. value) (object_target exports.now pairs.now subpath.now conditions.now) result }
 {
     if !has_dotted(pairs) {
         root_target(alloc, exports, subpath, conditions)
@@ -75,7 +76,7 @@ pub fn export_target(
     subpath: &str,
     conditions: &[Text],
 ) -> Result<Option<Text>, ExportsEnd>
-    ensures { Answers (target_of exports.now subpath.now conditions.now) result }
+    ensures { Answers NoMemory (λ value. value) (target_of exports.now subpath.now conditions.now) result }
 {
     match &exports.node {
         JsonNode::Null | JsonNode::Bool(_) | JsonNode::Number(_) => Ok(None),

@@ -4,7 +4,8 @@ ghost use Rattle.pkg_manifest.specs.Manifest.{AnswersBy, IsManifestOf, manifest_
 
 use crate::fields::fields_of;
 use crate::{Manifest, ManifestEnd};
-use json_order::{JsonEnd, JsonNode, JsonTree, one_answer, read};
+use json_order::laws::one_answer;
+use json_order::{JsonEnd, JsonNode, JsonTree, read};
 use std::alloc::Global;
 
 /// How many bytes a manifest may have.

@@ -5,7 +5,7 @@ ghost use Rattle.serde_json.specs.View.{view};
 ghost use Rattle.stats_text.specs.Stats.{number_stats, list_stats, asset_stats, chunk_stats, group_stats};
 
 use crate::numbers::numbers_value;
-use fault_place::{ModuleNo, NoMemory};
+use fault_place::{MAX_TEXT, ModuleNo, NoMemory};
 use graph_types::ModuleGraph;
 use serde_json::{Value, json};
 use std::alloc::Global;
@@ -27,7 +27,7 @@ fn all_numbers(alloc: Global, graph: &ModuleGraph) -> Result<Value, NoMemory>
 }
 
 fn total_size(graph: &ModuleGraph) -> u64
-    requires { AllByRecursion (λ rec. rec.size ≤ 4_194_304) graph.now.records }
+    requires { AllByRecursion (λ rec. rec.size ≤ MAX_TEXT) graph.now.records }
     ensures { result ≡ sum_by (λ numbered. numbered.1.size) (enumerate_from 0 graph.now.records) }
 {
     let mut total = 0;
@@ -44,7 +44,7 @@ pub fn chunk_value(
     chunk: u32,
     name: &str,
 ) -> Result<Value, NoMemory>
-    requires { AllByRecursion (λ rec. rec.size ≤ 4_194_304) graph.now.records }
+    requires { AllByRecursion (λ rec. rec.size ≤ MAX_TEXT) graph.now.records }
     ensures { IfOk result (λ value. view value ≡ chunk_stats chunk name.now (enumerate_from 0 graph.now.records)) }
 {
     let modules = all_numbers(alloc, graph)?;

@@ -6,14 +6,14 @@ ghost use Rattle.stats_text.specs.Stats.{stats_of, stats_text_of};
 use crate::chunk::{asset_value, chunk_value, group_value};
 use crate::modules::modules_value;
 use crate::notes::notes_value;
-use fault_place::{Bytes, NoMemory};
+use fault_place::{Bytes, MAX_TEXT, NoMemory};
 use graph_types::ModuleGraph;
 use serde_json::{Value, json};
 use std::alloc::Global;
 
 fn stats_value(alloc: Global, graph: &ModuleGraph) -> Result<Value, NoMemory>
     requires entry { 0 < length graph.now.roots }
-    requires sizes { AllByRecursion (λ rec. rec.size ≤ 4_194_304) graph.now.records }
+    requires sizes { AllByRecursion (λ rec. rec.size ≤ MAX_TEXT) graph.now.records }
     ensures { IfOk result (λ value. view value ≡ stats_of graph.now) }
 {
     let asset = asset_value(alloc, 0, "main.js")?;
@@ -27,7 +27,7 @@ fn stats_value(alloc: Global, graph: &ModuleGraph) -> Result<Value, NoMemory>
 /// The text of `stats.json` of a build whose one entry, `main`, has all modules in its one chunk.
 pub fn stats(alloc: Global, graph: &ModuleGraph) -> Result<Bytes, NoMemory>
     requires entry { 0 < length graph.now.roots }
-    requires sizes { AllByRecursion (λ rec. rec.size ≤ 4_194_304) graph.now.records }
+    requires sizes { AllByRecursion (λ rec. rec.size ≤ MAX_TEXT) graph.now.records }
     ensures { IfOk result (λ text. text ≡ stats_text_of graph.now) }
 {
     let value = stats_value(alloc, graph)?;

@@ -1,5 +1,5 @@
 -- A refused entry shows that a limit is exceeded, and a whole walk that none is.
-use Rattle.std.proofs.Common.{◌≡◌, ◌≢◌, ℕ, zero, suc, ◌+◌, ◌<◌, ◌≤◌, List, [], ◌∷◌, ◌++◌, map, length, get_or, ◌⊎◌, refl, sym, ap, ◌∙◌, subst, inl, inr, arith, length-append}
+use Rattle.std.proofs.Common.{◌≡◌, ◌≢◌, ℕ, zero, suc, ◌+◌, ◌<◌, ◌≤◌, List, [], ◌∷◌, ◌++◌, map, length, get_or, ◌⊎◌, ⊎_elim, refl, sym, ap, ◌∙◌, subst, inl, inr, arith, length-append}
 use Rattle.std.proofs.lemmas.List.{append_assoc, get_or-map, get_or_append_left, get_or_default, length-map}
 use Rattle.std.proofs.lemmas.List.Elements.{All-contains, All-map, Contains-append_right}
 use Rattle.std.proofs.lemmas.Map.Made.{IsDistinct-from_AllPairs, is_member-Decides, length-le_from_is_member}
@@ -14,8 +14,10 @@ use Rattle.outside.specs.Reads.{IsEntry, AreEntries}
 use Rattle.outside.specs.Tree.{Tree, IsTree}
 use Rattle.outside.specs.declared.entry.DirEntry.{DirEntry}
 use Rattle.tree_listing.specs.Limits.{IsEntryPath, Exceeds}
-use Rattle.tree_listing.specs.Walk.{root, entry_in, kept_in, AreFew, IsBelow, IsWalk, Refuses}
+use Rattle.tree_listing.specs.inner.Kept.{root, entry_in, kept_in, AreFound, Refuses}
+use Rattle.tree_listing.specs.inner.Walk.{IsBelow, IsWalk}
 use Rattle.tree_listing.specs.declared.kept.Kept.{Kept}
+use Rattle.tree_listing.proofs.Among.{pairs-front}
 use Rattle.tree_listing.proofs.Paths.{child-is_entry}
 use Rattle.tree_listing.proofs.Steps.{AreKept, are_kept, kept_in-entries}
 use Rattle.tree_listing.proofs.Trees.{entry-full, kind-entry}
@@ -24,12 +26,6 @@ use Rattle.tree_listing.proofs.Trees.{entry-full, kind-entry}
 
 All-front : {X : Type 0} (P : X → Type 0) (xs ys : List X) → All P (xs ++ ys) → All P xs
 All-front P xs ys all k d short = subst P (get_or_append_left xs ys d k short) (all k d (omega (arith, length-append xs ys)))
-
-pairs-front : {X : Type 0} (R : X → X → Type 0) (xs ys : List X) → AllPairs R (xs ++ ys) → AllPairs R xs
-pairs-front R xs ys all i j d before short =
-    let low : i < length xs = omega arith in
-    let both : R (get_or (xs ++ ys) i d) (get_or (xs ++ ys) j d) = all i j d before (omega (arith, length-append xs ys)) in
-    rw (get_or_append_left xs ys d i low, get_or_append_left xs ys d j short) at both
 
 pairs-map : {X Y : Type 0} (R : Y → Y → Type 0) (f : X → Y) (e : X) (xs : List X) → AllPairs (λ one other. R (f one) (f other)) xs → AllPairs R (map f xs)
 pairs-map R f e xs all i j d before within =
@@ -113,18 +109,26 @@ few_files tree is rest walk paths entries unlike =
     (is_member-Decides bytes_eq-Decides names path).1 (behind_root tree is rest path entry at.place at.inside at.is)) in
     omega (arith, length-map rest (λ (x : Kept). x.path))
 
-pub no_limit : (tree : Tree) → IsTree tree → (kept : List Kept) → IsWalk tree (length kept) kept → AreFew kept → (limit : Limit) → ¬ Exceeds tree limit
-no_limit tree is kept walk few Files over =
+-- no path that was found is too long
+found_short : (kept : List Kept) → AreFound kept → (place : ℕ) → place < length kept → length (get_or kept place root).path ≤ number_of PathBytes
+found_short kept found place inside =
+    ⊎_elim
+    (λ is. omega (arith, ap (λ (x : Kept). length x.path) is))
+    (λ own. own.1)
+    (found.each place root inside)
+
+pub no_limit : (tree : Tree) → IsTree tree → (kept : List Kept) → IsWalk tree (length kept) kept → AreFound kept → (limit : Limit) → ¬ Exceeds tree limit
+no_limit tree is kept walk found Files over =
     let rest = walk.from_root.0 in
     let whole : IsWalk tree (length (root ∷ rest)) (root ∷ rest) = subst (λ xs. IsWalk tree (length xs) xs) walk.from_root.1 walk in
-    omega (arith, few, over.3, ap length walk.from_root.1, few_files tree is rest whole over.0 over.1 over.2)
-no_limit tree is kept walk few PathBytes over =
+    omega (arith, found.few, over.3, ap length walk.from_root.1, few_files tree is rest whole over.0 over.1 over.2)
+no_limit tree is kept walk found PathBytes over =
     let at = all_kept tree kept walk over.0 over.1 in
-    omega (arith, over.2, walk.short at.place root at.inside, ap length at.is)
-no_limit tree is kept walk few Modules over = over
-no_limit tree is kept walk few TextBytes over = over
-no_limit tree is kept walk few Items over = over
-no_limit tree is kept walk few Blocks over = over
-no_limit tree is kept walk few Groups over = over
-no_limit tree is kept walk few Chunks over = over
-no_limit tree is kept walk few OutputBytes over = over
+    omega (arith, over.2, found_short kept found at.place at.inside, ap length at.is)
+no_limit tree is kept walk found Modules over = over
+no_limit tree is kept walk found TextBytes over = over
+no_limit tree is kept walk found Items over = over
+no_limit tree is kept walk found Blocks over = over
+no_limit tree is kept walk found Groups over = over
+no_limit tree is kept walk found Chunks over = over
+no_limit tree is kept walk found OutputBytes over = over

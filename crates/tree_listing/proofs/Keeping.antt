@@ -7,7 +7,7 @@ use Rattle.std.specs.declared.vec.IntoIter.{IntoIter}
 use Rattle.fault_place.specs.declared.limit.Limit.{Limit}
 use Rattle.path_text.specs.Child.{child_of}
 use Rattle.outside.specs.declared.entry.DirEntry.{DirEntry}
-use Rattle.tree_listing.specs.Walk.{kept_of, kept_in, HasKept, IsOver, IsRefusal, Refuses}
+use Rattle.tree_listing.specs.inner.Kept.{kept_of, kept_in, HasKept, IsOver, IsRefusal, Refuses}
 use Rattle.tree_listing.specs.declared.kept.Kept.{Kept}
 use Rattle.tree_listing.specs.declared.list_end.ListEnd.{ListEnd}
 use Rattle.tree_listing.specs.declared.list_end.ListEnd.TheVariants.{Failed, Limit as Over, NoMemory}

@@ -1,5 +1,9 @@
+pub mod Among
 pub mod Bounds
+pub mod Found
 pub mod Keeping
+pub mod LastNames
+pub mod Made
 pub mod Outcomes
 pub mod Paths
 pub mod Search

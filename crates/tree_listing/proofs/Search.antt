@@ -1,5 +1,5 @@
 -- What a binary search finds among files in ascending order, and among sorted folders.
-use Rattle.std.proofs.Common.{◌≡◌, ℕ, zero, suc, ◌+◌, ◌<◌, ◌≤◌, true, false, bytes_eq, List, [], ◌∷◌, length, get_or, Some, None, Result, Ok, Err, ◌⊎◌, ◌↔◌, inl, inr, refl, sym, ap, ◌∙◌, arith}
+use Rattle.std.proofs.Common.{◌≡◌, ℕ, zero, suc, ◌+◌, ◌<◌, ◌≤◌, true, false, bytes_eq, List, [], ◌∷◌, length, get_or, Some, None, Result, Ok, Err, ◌⊎◌, ◌↔◌, inl, inr, refl, sym, ap, ◌∙◌, subst, arith}
 use Rattle.std.specs.Prelude.{is_ok, IsTrue}
 use Rattle.std.proofs.lemmas.Bool.{and_parts, cases_lt, lt-ltb, le-ltb}
 use Rattle.std.proofs.lemmas.List.Sums.{position_or_len_is}
@@ -9,8 +9,8 @@ use Rattle.std.proofs.lemmas.Map.Text.{is_eq-slice_cmp}
 use Rattle.std.specs.Cmp.{tied_itself}
 use Rattle.std.specs.Cmp.Lexicographic.{slice_cmp, nat_list_cmp_total}
 use Rattle.std.specs.FinMap.Entries.{is_sorted, below_all}
-use Rattle.std.specs.List.{AllPairs, Contains, position_or_len}
-use Rattle.std.specs.List.Sorted.{IsSorted, IsSortedBy, IsBinarySearchResult, IsPartitionPoint, IsSearchInRange}
+use Rattle.std.specs.List.{AllByRecursion, AllPairs, Contains, position_or_len}
+use Rattle.std.specs.List.Sorted.{IsSorted, IsSortedBy, IsStrictlySortedBy, IsBinarySearchResult, IsPartitionPoint, IsSearchInRange}
 use Rattle.std.specs.Ordering.{nat_cmp, is_lt, is_eq, ordering_reverse}
 use Rattle.std.specs.declared.cmp.Ordering.{Ordering}
 use Rattle.std.specs.declared.cmp.Ordering.TheVariants.{Less, Equal, Greater}
@@ -80,6 +80,20 @@ missed files path place h result =
 
 -- ---- folders
 
+below_first : (path : List ℕ) (folders : List (List ℕ)) → AllByRecursion (λ other. path_cmp path other ≡ Less) folders → 0 < length folders → (d : List ℕ) → path_cmp path (get_or folders 0 d) ≡ Less
+below_first path [] all full d = absurd (omega arith)
+below_first path (folder ∷ folders) all full d = all.0
+
+-- folders that ascend are sorted as a search asks
+sorted_folders : (folders : List (List ℕ)) → IsStrictlySortedBy path_cmp folders → IsSorted path_cmp folders
+unfolding IsStrictlySortedBy
+sorted_folders [] h k d low within = absurd (omega arith)
+sorted_folders (folder ∷ folders) h zero d low within =
+    ap is_lt (nat_list_cmp_total.antisymm (get_or folders 0 d) folder ∙ ap ordering_reverse (below_first folder folders h.0 (omega arith) d))
+sorted_folders (folder ∷ folders) h (suc k) d low within =
+    let next : suc (k + 1) ≡ suc k + 1 = omega arith in
+    subst (λ n. is_lt (path_cmp (get_or (folder ∷ folders) n d) (get_or folders k d)) ≡ false) next (sorted_folders folders h.1 k d (omega arith) (omega arith))
+
 held : (folders : List (List ℕ)) (path : List ℕ) (place : ℕ) → place < length folders → ((d : List ℕ) → path_cmp (get_or folders place d) path ≡ Equal) → Contains folders path
 held folders path place within at = (place, within, exact_bytes _ _ (at path))
 
@@ -96,8 +110,8 @@ no_place folders path place parts k within is (inr after) =
     let equal_here = ap (λ x. path_cmp x path) is ∙ alike path in
     cc
 
-pub folder_found : (folders : List (List ℕ)) (path : List ℕ) (result : Result ℕ ℕ) → IsSorted path_cmp folders → IsSearchInRange result (length folders) → IsBinarySearchResult (λ folder. path_cmp folder path) folders result → IsTrue (is_ok result) ↔ Contains folders path
+pub folder_found : (folders : List (List ℕ)) (path : List ℕ) (result : Result ℕ ℕ) → IsStrictlySortedBy path_cmp folders → IsSearchInRange result (length folders) → IsBinarySearchResult (λ folder. path_cmp folder path) folders result → IsTrue (is_ok result) ↔ Contains folders path
 folder_found folders path (Ok place) h bound at = (λ _. held folders path place bound at, λ _. refl)
 folder_found folders path (Err place) h bound at =
-    let parts = at (searchable_from_sorted nat_list_cmp_total (λ folder. folder) folders path h) in
+    let parts = at (searchable_from_sorted nat_list_cmp_total (λ folder. folder) folders path (sorted_folders folders h)) in
     (λ no. cc, λ there. absurd (no_place folders path place parts there.0 there.1 there.2 (cases_lt there.0 place)))

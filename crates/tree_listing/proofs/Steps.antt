@@ -5,8 +5,6 @@ use Rattle.std.proofs.lemmas.List.{get_or-append-add, get_or-append_right, lengt
 use Rattle.std.proofs.lemmas.List.Elements.{All-append, All-cons, All-head, All-map, All-nil, All-tail}
 use Rattle.std.specs.List.{All, AllPairs, Any}
 use Rattle.std.specs.Prelude.{is_some}
-use Rattle.fault_place.specs.declared.limit.Limit.TheVariants.{PathBytes}
-use Rattle.fault_place.specs.Limit.{number_of}
 use Rattle.path_text.specs.Child.{IsSegment, child_of}
 use Rattle.path_text.specs.Path.{parent_of}
 use Rattle.path_text.proofs.Children.{parent_of-child}
@@ -15,7 +13,8 @@ use Rattle.outside.specs.Tree.{Tree, IsTree, bytes_at, within, is_folder}
 use Rattle.outside.specs.declared.entry.DirEntry.{DirEntry}
 use Rattle.outside.specs.declared.entry.EntryKind.TheVariants.{File, Folder}
 use Rattle.tree_listing.specs.Limits.{IsEntryPath}
-use Rattle.tree_listing.specs.Walk.{AreFew, root, entry_in, kept_where, kept_of, kept_in, HasKept, IsBelow, IsWalk}
+use Rattle.tree_listing.specs.inner.Kept.{root, entry_in, kept_where, kept_of, kept_in, HasKept}
+use Rattle.tree_listing.specs.inner.Walk.{IsBelow, IsWalk}
 use Rattle.tree_listing.specs.declared.kept.Kept.{Kept}
 use Rattle.tree_listing.proofs.Paths.{child-cancel, child-is_entry}
 use Rattle.tree_listing.proofs.Trees.{FirstBelow, entry-full, first_below, file_given, none-below_file}
@@ -167,7 +166,6 @@ step_folder tree is place kept new walk inside entries own has =
       once = all.once;
       parents = λ k above within. parents tree place kept walk inside entries own.each k above within (cases_lt k (length kept));
       all = λ path entry. reached tree is place kept inside entries own path entry (walk.all path entry);
-      short = All-append (λ (x : Kept). length x.path ≤ number_of PathBytes) kept (map (entry_in folder) entries) walk.short (subst (All (λ (x : Kept). length x.path ≤ number_of PathBytes)) more has.short);
     } in
     subst (IsWalk tree (place + 1)) (ap (λ xs. kept ++ xs) (sym more) ∙ sym has.kept) whole
 
@@ -192,7 +190,6 @@ step_file tree is place kept size walk inside kind =
       once = walk.once;
       parents = λ k above within. (let up = walk.parents k above within in (up.0, omega (arith, up.1), up.2));
       all = λ path entry. past-file tree is place kept (ap is_some content.1) path entry (walk.all path entry);
-      short = walk.short;
     }
 
 root_kind : (bytes : Option (List ℕ)) → (is_some bytes ≡ true → ⊥) → kind_of bytes true ≡ Some Folder
@@ -208,8 +205,4 @@ start tree is = record {
   once = λ i j d low high. absurd (omega arith);
   parents = λ k above within. absurd (omega arith);
   all = λ path entry. inr (0, omega arith, omega arith, (path, refl));
-  short = All-cons (λ (x : Kept). length x.path ≤ number_of PathBytes) root [] (omega arith) (All-nil (λ (x : Kept). length x.path ≤ number_of PathBytes));
 }
-
-pub few-root : AreFew (root ∷ [])
-few-root = omega arith

@@ -20,7 +20,7 @@ use Rattle.outside.specs.Tree.{Tree, IsTree, bytes_at, files_of, within, has_fil
 use Rattle.outside.specs.declared.entry.EntryKind.{EntryKind}
 use Rattle.outside.specs.declared.entry.EntryKind.TheVariants.{File, Folder}
 use Rattle.tree_listing.specs.Limits.{IsEntryPath}
-use Rattle.tree_listing.specs.Walk.{IsBelow}
+use Rattle.tree_listing.specs.inner.Walk.{IsBelow}
 use Rattle.tree_listing.proofs.Paths.{cut, within-child, within-full, segment-from, normal-below, normal-parts, not_normal, child-is_entry}
 
 -- ---- texts that begin with another

@@ -1,14 +1,13 @@
 -- The listing of a whole walk is that of the tree.
-use Rattle.std.proofs.Common.{◌≡◌, ℕ, zero, suc, ◌<◌, Bool, true, false, cond, List, [], ◌∷◌, length, get_or, Option, Some, None, ◌⊎◌, refl, sym, ap, ◌∙◌, subst, inl, inr, arith}
+use Rattle.std.proofs.Common.{◌≡◌, ℕ, zero, suc, ◌<◌, Bool, true, false, cond, List, [], ◌∷◌, length, get_or, Option, Some, None, refl, sym, ap, ◌∙◌, subst, arith}
 use Rattle.std.proofs.lemmas.Bool.{and_parts, or_left}
 use Rattle.std.proofs.lemmas.List.{get_or_default}
 use Rattle.std.proofs.lemmas.Option.{same_Some}
-use Rattle.std.proofs.lemmas.List.Elements.{Contains-append_cases, Contains-append_left, Contains-append_right}
 use Rattle.std.proofs.lemmas.Map.Lookups.{exact_bytes}
 use Rattle.std.specs.Cmp.{tied_itself}
 use Rattle.std.specs.Cmp.Lexicographic.{nat_list_cmp_total}
 use Rattle.std.specs.FinMap.Entries.{find, is_sorted, below_all, same_entries}
-use Rattle.std.specs.List.{Any, Contains, flat_map}
+use Rattle.std.specs.List.{Any, Contains}
 use Rattle.std.specs.Ordering.{is_eq, is_lt, eq_by_cmp, ordering_reverse}
 use Rattle.std.specs.Prelude.{is_some, option_map, ◌&&◌}
 use Rattle.std.proofs.Math.Dec.{T}
@@ -18,8 +17,11 @@ use Rattle.outside.specs.Tree.{Tree, IsTree, bytes_at, is_folder}
 use Rattle.outside.specs.declared.entry.EntryKind.{EntryKind}
 use Rattle.outside.specs.declared.entry.EntryKind.TheVariants.{File, Folder}
 use Rattle.tree_listing.specs.Listing.{Listed, IsListingOf, lengths_of}
-use Rattle.tree_listing.specs.Walk.{root, file_where, folder_where, files_among, folders_among, Holds, IsWalk}
+use Rattle.tree_listing.specs.inner.Kept.{root}
+use Rattle.tree_listing.specs.inner.Split.{file_where, folder_where, files_among, folders_among, Holds}
+use Rattle.tree_listing.specs.inner.Walk.{IsWalk}
 use Rattle.tree_listing.specs.declared.kept.Kept.{Kept}
+use Rattle.tree_listing.proofs.Among.{flat_from, from_file, from_folder, file_among, folder_among}
 use Rattle.tree_listing.proofs.Bounds.{IsKept, all_kept}
 use Rattle.tree_listing.proofs.Search.{path_cmp, below-at}
 use Rattle.tree_listing.proofs.Trees.{equal, file_given, folder_given, entry-full, file-alone, kind-entry}
@@ -67,41 +69,6 @@ sorted-lengths : (tree : Tree) → is_sorted path_cmp (lengths_of tree) ≡ is_s
 sorted-lengths [] = refl
 sorted-lengths (file ∷ tree) = ap (λ b. b && is_sorted path_cmp (lengths_of tree)) (below-lengths file.0 tree) ∙ ap (λ b. below_all path_cmp file.0 tree && b) (sorted-lengths tree)
 
--- ---- the files and the folders among kept entries
-
-flat_from : {X Y : Type 0} (f : X → List Y) (d : X) (xs : List X) (y : Y) → Contains (flat_map f xs) y → (k : ℕ) × (k < length xs) × Contains (f (get_or xs k d)) y
-flat_from f d [] y h = absurd (omega (arith, h.1))
-flat_from f d (x ∷ xs) y h = from (flat_from f d xs y) (Contains-append_cases (f x) (flat_map f xs) y h)
-  where
-    from : (Contains (flat_map f xs) y → (k : ℕ) × (k < length xs) × Contains (f (get_or xs k d)) y) → Contains (f x) y ⊎ Contains (flat_map f xs) y → (k : ℕ) × (k < length (x ∷ xs)) × Contains (f (get_or (x ∷ xs) k d)) y
-    from rest (inl here) = (0, omega arith, here)
-    from rest (inr later) = (let more = rest later in (suc more.0, omega (arith, more.1), more.2))
-
-flat_to : {X Y : Type 0} (f : X → List Y) (d : X) (xs : List X) (y : Y) (k : ℕ) → k < length xs → Contains (f (get_or xs k d)) y → Contains (flat_map f xs) y
-flat_to f d [] y k inside h = absurd (omega arith)
-flat_to f d (x ∷ xs) y zero inside h = Contains-append_left (f x) (flat_map f xs) y h
-flat_to f d (x ∷ xs) y (suc k) inside h = Contains-append_right (f x) (flat_map f xs) y (flat_to f d xs y k (omega arith) h)
-
-only : {X : Type 0} (x y : X) (k : ℕ) → k < 1 → get_or (x ∷ []) k y ≡ y → x ≡ y
-only x y zero inside is = is
-only x y (suc k) inside is = absurd (omega arith)
-
-from_file : (path : List ℕ) (kind : EntryKind) (file : List ℕ × ℕ) → Contains (file_where path kind) file → (path ≡ file.0) × (kind ≡ File file.1)
-from_file path (File size) file h = (let same = only (path, size) file h.0 h.1 h.2 in (ap (λ (x : List ℕ × ℕ). x.0) same, ap (λ (x : List ℕ × ℕ). File x.1) same))
-from_file path Folder file h = absurd (omega (arith, h.1))
-
-to_file : (path : List ℕ) (kind : EntryKind) (size : ℕ) → kind ≡ File size → Contains (file_where path kind) (path, size)
-to_file path (File own) size e = (let same : own ≡ size = cc in (0, omega arith, ap (λ x. (path, x)) same))
-to_file path Folder size e = cc
-
-from_folder : (path : List ℕ) (kind : EntryKind) (folder : List ℕ) → Contains (folder_where path kind) folder → (path ≡ folder) × (kind ≡ Folder)
-from_folder path (File size) folder h = absurd (omega (arith, h.1))
-from_folder path Folder folder h = (only path folder h.0 h.1 h.2, refl)
-
-to_folder : (path : List ℕ) (kind : EntryKind) → kind ≡ Folder → Contains (folder_where path kind) path
-to_folder path (File size) e = cc
-to_folder path Folder e = (0, omega arith, refl)
-
 -- ---- the files
 
 file_kind : (tree : Tree) (path content : List ℕ) → bytes_at tree path ≡ Some content → kind_at tree path ≡ Some (File (length content))
@@ -110,14 +77,6 @@ file_kind tree path content e = ap (λ o. kind_of o (is_folder tree path)) e
 -- a kept entry at a path has the kind that the tree has there
 kind_kept : (tree : Tree) (listed : ℕ) (kept : List Kept) → IsWalk tree listed kept → (path : List ℕ) (kind : EntryKind) → kind_at tree path ≡ Some kind → (place : ℕ) → place < length kept → (get_or kept place root).path ≡ path → (get_or kept place root).kind ≡ kind
 kind_kept tree listed kept walk path kind h place inside at = same_Some _ _ (sym (walk.there place root inside) ∙ ap (kind_at tree) at ∙ h)
-
-file_among : (kept : List Kept) (path : List ℕ) (size place : ℕ) → place < length kept → (get_or kept place root).path ≡ path → (get_or kept place root).kind ≡ File size → Contains (files_among kept) (path, size)
-file_among kept path size place inside at kind =
-    subst (λ x. Contains (files_among kept) (x, size)) at (flat_to (λ (entry : Kept). file_where entry.path entry.kind) root kept ((get_or kept place root).path, size) place inside (to_file (get_or kept place root).path (get_or kept place root).kind size kind))
-
-folder_among : (kept : List Kept) (path : List ℕ) (place : ℕ) → place < length kept → (get_or kept place root).path ≡ path → (get_or kept place root).kind ≡ Folder → Contains (folders_among kept) path
-folder_among kept path place inside at kind =
-    subst (Contains (folders_among kept)) at (flat_to (λ (entry : Kept). folder_where entry.path entry.kind) root kept (get_or kept place root).path place inside (to_folder (get_or kept place root).path (get_or kept place root).kind kind))
 
 -- a file that was kept is one of the tree, with its length, and so is a folder
 own_file : (tree : Tree) (listed : ℕ) (kept : List Kept) → IsWalk tree listed kept → (file : List ℕ × ℕ) → Contains (files_among kept) file → kind_at tree file.0 ≡ Some (File file.1)
@@ -143,7 +102,7 @@ module _ (tree : Tree) (is : IsTree tree) (kept : List Kept) (walk : IsWalk tree
   found_size path size h found =
       let own = own_file tree (length kept) kept walk found.1 (held.each_file found.1 (found.0, found.2, found.3)) in
       let one = same_file found.1 path size found.4 (same_size found.1.1 size (sym own ∙ ap (kind_at tree) found.4 ∙ h)) in
-      find_from listing.files held.ascending path size found.0 found.2 (get_or_default listing.files found.0 (path, size) found.1 found.2 ∙ found.3 ∙ one)
+      find_from listing.files held.is.files_ascend path size found.0 found.2 (get_or_default listing.files found.0 (path, size) found.1 found.2 ∙ found.3 ∙ one)
 
   kept_size : (path content : List ℕ) → bytes_at tree path ≡ Some content → IsKept kept path → find path_cmp path listing.files ≡ Some (length content)
   kept_size path content e at =
@@ -165,7 +124,7 @@ module _ (tree : Tree) (is : IsTree tree) (kept : List Kept) (walk : IsWalk tree
   same_files : listing.files ≡ lengths_of tree
   same_files =
       same_entries path_cmp nat_list_cmp_total exact_bytes listing.files (lengths_of tree)
-      (subst T (sym held.ascending) tt) (subst T (sym (sorted-lengths tree ∙ is.sorted)) tt)
+      (subst T (sym held.is.files_ascend) tt) (subst T (sym (sorted-lengths tree ∙ is.sorted)) tt)
       (λ path. finds path (bytes_at tree path) refl ∙ sym (find-lengths tree path))
 
   -- ---- the folders

@@ -1,5 +1,5 @@
 pub mod Ends
+pub mod inner
 pub mod Limits
 pub mod Listing
 pub mod Lists
-pub mod Walk

@@ -1,5 +1,6 @@
 ghost use Rattle.std.specs.Prelude.{◌≡◌, ◌∷◌, [], IfOk};
-ghost use Rattle.tree_listing.specs.Walk.{AreFew, IsSplit, Keeps, root};
+ghost use Rattle.tree_listing.specs.inner.Kept.{AreFew, Keeps, root};
+ghost use Rattle.tree_listing.specs.inner.Split.{IsSplit};
 
 use crate::ListEnd;
 use crate::listed_file::ListedFile;
@@ -34,8 +35,7 @@ pub(crate) fn keep_all(
     entries: Vec<DirEntry>,
 ) -> Result<(), ListEnd>
     requires { AreFew kept.old.items }
-    ensures few { AreFew kept.new.items }
-    ensures keeps { Keeps folder.now entries.items kept.old.items kept.new.items result }
+    ensures { Keeps folder.now entries.items kept.old.items kept.new.items result }
 {
     for entry in entries {
         keep(alloc, kept, folder, entry)?;
@@ -45,8 +45,7 @@ pub(crate) fn keep_all(
 
 fn keep(alloc: Global, kept: &mut Vec<Kept>, folder: &str, entry: DirEntry) -> Result<(), ListEnd>
     requires { AreFew kept.old.items }
-    ensures few { AreFew kept.new.items }
-    ensures keeps { Keeps folder.now (entry ∷ []) kept.old.items kept.new.items result }
+    ensures { Keeps folder.now (entry ∷ []) kept.old.items kept.new.items result }
 {
     if !is_segment(entry.name.get()) {
         return Ok(());

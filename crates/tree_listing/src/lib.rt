@@ -1,9 +1,11 @@
 //! The files of a tree in byte order of path, with their lengths, and its folders, found by walking it.
 //!
-//! A listing's files are strictly ascending by path, whatever reader told them.
+//! Whatever reader told them, a listing's paths are normal, each is there once and stands in one of its folders, and
+//! they keep the limits on their number and length. `laws` has what follows for names and folders.
 #![tactic(auto)]
 
 mod kept;
+pub mod laws;
 mod list_end;
 mod listed_file;
 mod listing;

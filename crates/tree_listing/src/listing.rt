@@ -1,13 +1,15 @@
-ghost use Rattle.std.specs.Prelude.{◌≡◌, ◌<◌, ◌↔◌, ℕ, List, length, Contains, IsTrue, IfOk, IfErr, option_map};
+ghost use Rattle.std.specs.Prelude.{◌≡◌, ◌<◌, ◌↔◌, length, Contains, IsTrue, IfOk, IfErr, option_map};
 ghost use Rattle.std.specs.Cmp.Lexicographic.{slice_cmp};
 ghost use Rattle.std.specs.Ordering.{nat_cmp};
-ghost use Rattle.tree_listing.specs.Walk.{AreFew, Holds};
-ghost use Rattle.tree_listing.specs.Listing.{AreAscending, path_at, length_at, number_at};
+ghost use Rattle.tree_listing.specs.inner.Kept.{AreFound};
+ghost use Rattle.tree_listing.specs.inner.Split.{Holds, IsSortedOnce};
+ghost use Rattle.path_text.specs.Path.{IsNormal};
+ghost use Rattle.tree_listing.specs.Listing.{IsListing, path_at, length_at, number_at};
 
 use crate::ListEnd;
 use crate::kept::{Kept, split};
 use crate::listed_file::ListedFile;
-use fault_place::{FileId, Text};
+use fault_place::{FileId, NoMemory, Text};
 use std::alloc::Global;
 use std::cmp::Ordering;
 use std::marker::Model;
@@ -20,36 +22,31 @@ pub struct Listing {
 }
 
 impl Model for Listing {
-    ghost use Rattle.std.specs.Prelude.{◌<◌, ◌^◌, length};
-    ghost use Rattle.std.specs.List.Sorted.{IsSorted};
-    ghost use Rattle.std.specs.Ordering.{nat_cmp};
-    ghost use Rattle.std.specs.Cmp.Lexicographic.{slice_cmp};
-    ghost use Rattle.tree_listing.specs.Listing.{AreAscending, Listed};
+    ghost use Rattle.tree_listing.specs.Listing.{IsListing, Listed};
 
     ghost Value = { Listed };
 
     ghost view = { λ listing. record { files = listing.files.items; folders = listing.folders.items } };
 
-    ghost invariant = { λ listing. AreAscending listing.files.items × IsSorted (slice_cmp nat_cmp) listing.folders.items × (length listing.files.items < 2 ^ 32) };
+    ghost invariant = { λ listing. IsListing (record { files = listing.files.items; folders = listing.folders.items }) };
 }
 
 impl Listing {
     pub(crate) fn new(alloc: Global, kept: Vec<Kept>) -> Result<Listing, ListEnd>
-        requires { AreFew kept.items }
+        requires { AreFound kept.items }
         ensures ok { IfOk result (λ listing. Holds kept.items listing) }
         ensures err { IfErr result (λ end. end ≡ ListEnd.NoMemory) }
     {
-        let (mut files, mut folders) = split(alloc, kept)?;
-        files.sort()?;
-        files.dedup();
-        folders.sort()?;
+        let (files, folders) = split(alloc, kept)?;
+        let files = sorted_once(files)?;
+        let folders = sorted_once(folders)?;
         Ok(Listing { files, folders })
     }
 
     /// The number of files.
     pub fn count(&self) -> u32
         ensures count { result ≡ length self.now.files }
-        ensures ascending { AreAscending self.now.files }
+        ensures is { IsListing self.now }
     {
         self.files.len() as u32
     }
@@ -71,7 +68,8 @@ impl Listing {
 
     pub fn path(&self, f: FileId) -> &str
         requires { f.0 < length self.now.files }
-        ensures { result.now ≡ path_at self.now.files f.0 }
+        ensures path { result.now ≡ path_at self.now.files f.0 }
+        ensures normal { IsNormal result.now }
     {
         self.files[f.0 as usize].path()
     }
@@ -95,4 +93,14 @@ impl Listing {
         );
         found.is_ok()
     }
+}
+
+/// In order, and each once.
+#[tactic(auto, using(crate::proofs::Sorting::sort_leaves))]
+fn sorted_once<T: Ord + Drop>(mut items: Vec<T>) -> Result<Vec<T>, NoMemory>
+    ensures { IfOk result (λ left. IsSortedOnce T.cmp T.eq items.items left.items) }
+{
+    items.sort()?;
+    items.dedup();
+    Ok(items)
 }

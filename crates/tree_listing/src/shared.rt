@@ -1,7 +1,6 @@
 //! A listing may be sent to any thread and read by all at once.
 use crate::Listing;
-
-fn is_shared<T: Send + Sync>(_: &T) {}
+use pack_util::is_shared;
 
 fn is_listing_shared(listing: &Listing) {
     is_shared(listing);

@@ -1,10 +1,12 @@
-ghost use Rattle.std.specs.Prelude.{◌≡◌, ◌⊎◌, ◌+◌, ◌<◌, IfOk, IsErrOf, vec_len};
+ghost use Rattle.std.specs.Prelude.{◌≡◌, ◌⊎◌, ℕ, List, ◌+◌, ◌<◌, IfOk, OnOk, IsErrOf, vec_len};
 ghost use Rattle.fault_place.specs.declared.limit.Limit.{Limit};
 ghost use Rattle.fault_place.specs.declared.limit.Limit.TheVariants.{Files, PathBytes};
 ghost use Rattle.outside.specs.Cause.{Rose};
 ghost use Rattle.outside.specs.Tree.{Told};
-ghost use Rattle.tree_listing.specs.Lists.{ListsTree};
-ghost use Rattle.tree_listing.specs.Walk.{AreFew, HasWalked, IsWalk, Walks};
+ghost use Rattle.tree_listing.specs.Listing.{IsListing};
+ghost use Rattle.tree_listing.specs.Lists.{Asks, ListsTree};
+ghost use Rattle.tree_listing.specs.inner.Kept.{AreFound};
+ghost use Rattle.tree_listing.specs.inner.Walk.{HasWalked, HasWalkedTo, Walks};
 
 use crate::kept::{Kept, keep_all};
 use crate::{ListEnd, Listing};
@@ -15,10 +17,9 @@ use std::alloc::Global;
 /// passed over.
 pub fn list<R: TreeReader>(alloc: Global, reader: &mut R) -> Result<Listing, ListEnd>
     ensures follows { R.follows reader.old reader.new }
-    ensures log { R.log reader.new ≡ R.log reader.old }
-    ensures cause { IsErrOf result ListEnd.Failed → Rose (R.faults reader.old) (R.faults reader.new) }
-    ensures limit { (limit : Limit) → IsErrOf result (ListEnd.Limit limit) → (limit ≡ Files) ⊎ (limit ≡ PathBytes) }
-    ensures told { Told (R.tree reader.old) (λ tree. ListsTree tree (R.strays reader.old) (R.strays reader.new) result) }
+    ensures asks { Asks (R.view reader.old) (R.view reader.new) result }
+    ensures is { IfOk result (λ listing. IsListing listing) }
+    ensures told { Told (R.view reader.old).tree (λ tree. ListsTree tree (R.view reader.old) (R.view reader.new) result) }
 {
     let kept = walk(alloc, reader)?;
     Listing::new(alloc, kept)
@@ -27,11 +28,9 @@ pub fn list<R: TreeReader>(alloc: Global, reader: &mut R) -> Result<Listing, Lis
 /// All files and folders from the root on.
 fn walk<R: TreeReader>(alloc: Global, reader: &mut R) -> Result<Vec<Kept>, ListEnd>
     ensures follows { R.follows reader.old reader.new }
-    ensures log { R.log reader.new ≡ R.log reader.old }
-    ensures cause { IsErrOf result ListEnd.Failed → Rose (R.faults reader.old) (R.faults reader.new) }
-    ensures limit { (limit : Limit) → IsErrOf result (ListEnd.Limit limit) → (limit ≡ Files) ⊎ (limit ≡ PathBytes) }
-    ensures few { IfOk result (λ kept. AreFew kept.items) }
-    ensures told { Told (R.tree reader.old) (λ tree. HasWalked tree (R.strays reader.old) (R.strays reader.new) result) }
+    ensures asks { Asks (R.view reader.old) (R.view reader.new) result }
+    ensures found { IfOk result (λ kept. AreFound kept.items) }
+    ensures told { Told (R.view reader.old).tree (λ tree. HasWalked tree (R.view reader.old) (R.view reader.new) result) }
 {
     let mut kept = Vec::new(alloc);
     kept.push(Kept::root(alloc)?)?;
@@ -50,14 +49,12 @@ fn list_one<R: TreeReader>(
     kept: &mut Vec<Kept>,
     place: usize,
 ) -> Result<(), ListEnd>
-    requires few { AreFew kept.old.items }
+    requires found { AreFound kept.old.items }
     requires there { place < vec_len kept.old }
     ensures follows { R.follows reader.old reader.new }
-    ensures log { R.log reader.new ≡ R.log reader.old }
-    ensures cause { IsErrOf result ListEnd.Failed → Rose (R.faults reader.old) (R.faults reader.new) }
-    ensures limit { (limit : Limit) → IsErrOf result (ListEnd.Limit limit) → (limit ≡ Files) ⊎ (limit ≡ PathBytes) }
-    ensures few { AreFew kept.new.items }
-    ensures told { Told (R.tree reader.old) (λ tree. IsWalk tree place kept.old.items → Walks tree (place + 1) kept.new.items (R.strays reader.old) (R.strays reader.new) result) }
+    ensures asks { Asks (R.view reader.old) (R.view reader.new) result }
+    ensures found { OnOk result (AreFound kept.new.items) }
+    ensures told { Told (R.view reader.old).tree (λ tree. (first : List (List ℕ)) → HasWalkedTo tree first place kept.old.items (R.view reader.old) → Walks tree first (place + 1) kept.new.items (R.view reader.old) (R.view reader.new) result) }
 {
     if let EntryKind::File(_) = kept[place].kind {
         return Ok(());

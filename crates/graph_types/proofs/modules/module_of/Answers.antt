@@ -9,9 +9,9 @@ use Rattle.graph_types.proofs.modules.module_of.Goals as goal
 pub returns-in-Ok : goal.returns-in-Ok
 returns-in-Ok c =
     let at = c.in-Ok.ensures.position (λ rec. nat_cmp rec.file.0 c.args.file.0) (always_returns_same _ _ _ (λ a r f called. search rules)) in
-    ap (option_map module_no) (found (λ rec. rec.file.0) c.args.records.now c.args.file.0 _ c.requires.ascending c.in-Ok.ensures.bound at)
+    ap (option_map module_no) (found (λ rec. rec.file.0) c.args.records.now c.args.file.0 _ c.requires.modules.ascending c.in-Ok.ensures.bound at)
 
 pub returns-in-Err : goal.returns-in-Err
 returns-in-Err c =
     let at = c.in-Err.ensures.position (λ rec. nat_cmp rec.file.0 c.args.file.0) (always_returns_same _ _ _ (λ a r f called. search rules)) in
-    ap (option_map module_no) (missed (λ rec. rec.file.0) c.args.records.now c.args.file.0 _ c.requires.ascending at)
+    ap (option_map module_no) (missed (λ rec. rec.file.0) c.args.records.now c.args.file.0 _ c.requires.modules.ascending at)

@@ -1,5 +1,5 @@
 use Rattle.std.proofs.Common.{◌≡◌, ◌+◌, drop}
-use Rattle.json_order.specs.Steps.{run, fresh}
+use Rattle.json_order.specs.inner.Steps.{run, fresh}
 use Rattle.json_order.proofs.reading.run.Given as goal
 
 abbrev pub invariant-loop-index : goal.invariant-loop-index

@@ -1,18 +1,20 @@
-use Rattle.std.proofs.Common.{◌≡◌, ◌+◌, ◌++◌, ◌∷◌, [], get_or, take, sym, ap, ◌∙◌}
-use Rattle.std.proofs.lemmas.List.{map_more}
-use Rattle.fault_place.specs.declared.number.FileId.{FileId}
-use Rattle.graph_types.specs.Modules.{file_id}
-use Rattle.make_rounds.specs.Found.{Finding, with_file, with_files}
-use Rattle.make_rounds.specs.Gathered.{numbers_of}
+use Rattle.std.proofs.Common.{◌≡◌, ◌+◌, ◌++◌, [], take, sym, ap, ◌∙◌}
+use Rattle.make_rounds.specs.inner.Found.{Finding, with_files}
+use Rattle.make_rounds.specs.inner.Gathered.{first_files, numbers_of}
 use Rattle.make_rounds.proofs.Findings.{with_files-append}
+use Rattle.make_rounds.proofs.Lists.{first_files-more}
 use Rattle.make_rounds.proofs.gathering.first_found.Goals as goal
 
-pub loop-file-preserved : goal.loop-file-preserved
-loop-file-preserved c =
-    let entry = c.args.entry.now in
-    let place = c.loop-file.file-index in
+pub loop-entry-preserved : goal.loop-entry-preserved
+loop-entry-preserved c =
+    let entries = c.args.entries.now in
+    let place = c.loop-entry.entry-index in
     let start : Finding = record { of = c.args.files; files = [] } in
-    let one = (get_or entry place (file_id 0)).0 in
-    let more : numbers_of (take (place + 1) entry) ≡ numbers_of (take place entry) ++ one ∷ [] = map_more (λ (file : FileId). file.0) entry place (file_id 0) c.loop-file-test.true in
-    c.in_ok-add.ensures ∙ ap (λ found. with_file found one) c.loop-file.invariant
-    ∙ with_files-append start (numbers_of (take place entry)) (one ∷ []) ∙ ap (with_files start) (sym more)
+    let one = c.entry-item.result in
+    let more : first_files (take (place + 1) entries) ≡ first_files (take place entries) ++ numbers_of one =
+    first_files-more entries place one c.loop-entry-test.true ∙ ap (λ entry. first_files (take place entries) ++ numbers_of entry) (sym c.entry-item.is) in
+    c.in_ok-add_files.ensures
+    ∙ ap (λ files. with_files c.loop-entry.found (numbers_of files)) c.as_slice.ensures
+    ∙ ap (λ found. with_files found (numbers_of one)) c.loop-entry.invariant
+    ∙ with_files-append start (first_files (take place entries)) (numbers_of one)
+    ∙ ap (with_files start) (sym more)

@@ -1,13 +1,12 @@
-use Rattle.std.proofs.Common.{◌≡◌, ◌-◌, ◌≤◌, ◌++◌, map, take, length}
+use Rattle.std.proofs.Common.{◌≡◌, ◌-◌, ◌≤◌, take, length}
 use Rattle.std.specs.List.{AllByRecursion}
 use Rattle.graph_types.specs.Modules.{files_of}
 use Rattle.graph_types.specs.declared.record.ModRecord.{ModRecord}
 use Rattle.outside.specs.Tree.{Told}
-use Rattle.tree_listing.specs.Listing.{lengths_of}
-use Rattle.make_rounds.specs.Gathered.{numbers_of}
-use Rattle.make_rounds.specs.Reads.{file_read}
+use Rattle.tree_listing.specs.Listing.{IsListingOf}
+use Rattle.make_rounds.specs.inner.Gathered.{first_files}
 use Rattle.make_rounds.specs.Shape.{IsSimple}
-use Rattle.make_rounds.proofs.Pending.{AreMade}
+use Rattle.make_rounds.proofs.Pending.{AreMade, ReadsFirst}
 use Rattle.make_rounds.proofs.gathering.gather.Given as goal
 
 abbrev pub invariant-loop-alloc : goal.invariant-loop-alloc
@@ -19,9 +18,9 @@ invariant-loop-alloc g l =
       within : count ≤ length l.found.files;
       files : files_of l.records.items ≡ take count l.found.files;
       each : AllByRecursion (λ (rec : ModRecord). IsSimple (length l.listing.files) rec.file rec) l.records.items;
-      no_stray : Told (g.R.TreeReader.tree l.fn.reader) (λ tree. l.listing.files ≡ lengths_of tree → g.R.TreeReader.strays l.reader ≡ g.R.TreeReader.strays l.fn.reader);
-      made : Told (g.R.TreeReader.tree l.fn.reader) (λ tree. l.listing.files ≡ lengths_of tree → AreMade tree (numbers_of l.entry) l.found.files l.records.items);
-      log : Told (g.R.TreeReader.tree l.fn.reader) (λ tree. l.listing.files ≡ lengths_of tree → g.R.TreeReader.log l.reader ≡ g.R.TreeReader.log l.fn.reader ++ map (file_read tree) (take count l.found.files));
+      no_stray : Told (g.R.TreeReader.view l.fn.reader).tree (λ tree. IsListingOf tree l.listing → (g.R.TreeReader.view l.reader).strays ≡ (g.R.TreeReader.view l.fn.reader).strays);
+      made : Told (g.R.TreeReader.view l.fn.reader).tree (λ tree. IsListingOf tree l.listing → AreMade tree (first_files l.entries) l.found.files l.records.items);
+      log : Told (g.R.TreeReader.view l.fn.reader).tree (λ tree. IsListingOf tree l.listing → ReadsFirst tree l.found.files count (g.R.TreeReader.view l.fn.reader) (g.R.TreeReader.view l.reader));
     }
 
 abbrev pub decreases-loop-alloc : goal.decreases-loop-alloc

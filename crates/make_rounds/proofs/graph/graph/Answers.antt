@@ -1,10 +1,28 @@
+use Rattle.std.proofs.Common.{◌≤◌, ◌++◌, ◌∙◌, ap, length, refl, sym, subst, arith}
 use Rattle.std.proofs.lemmas.Result.{IfOk-weaker}
+use Rattle.std.specs.Prelude.{flat_map}
 use Rattle.graph_types.specs.Modules.{Graph}
-use Rattle.make_rounds.proofs.Blocks.{fit}
+use Rattle.graph_types.specs.declared.record.ModRecord.{ModRecord}
+use Rattle.make_rounds.specs.inner.Gathered.{IsGraphFrom}
+use Rattle.make_rounds.proofs.Fits.{few, few_items}
 use Rattle.make_rounds.proofs.graph.graph.Goals as goal
 
-pub returns-clause-fits : goal.returns-clause-fits
-returns-clause-fits c =
-    IfOk-weaker c.put_together.result _ _
-    (λ (graph : Graph) from. fit c.args.files c.args.records.items c.args.entry c.args.faults.items graph c.requires from)
-    c.put_together.ensures
+pub from_records-requires-clause-modules : goal.from_records-requires-clause-modules
+from_records-requires-clause-modules c =
+    let below : length c.in_file_order-records.result.items ≤ c.args.files = few c.args.files _ _ c.requires c.in_file_order-records.ensures.same in
+    let size = c.ranges.files.fits in
+    record { ascending = c.in_file_order-records.ensures.ascending c.requires.distinct; few = omega arith }
+
+pub from_records-requires-clause-few_items : goal.from_records-requires-clause-few_items
+from_records-requires-clause-few_items c = few_items c.args.files _ _ c.requires c.in_file_order-records.ensures.same
+
+pub returns : goal.returns
+returns c =
+    IfOk-weaker c.from_records.result _ _
+    (λ (graph : Graph) is. subst (IsGraphFrom c.args.records.items c.args.entries.now c.args.faults.items) (sym is) (record {
+      same = c.in_file_order-records.ensures.same;
+      ascending = c.in_file_order-records.ensures.ascending c.requires.distinct;
+      roots_are = refl;
+      faults_are = c.in_ok-faults.ensures ∙ ap (λ records. c.args.faults.items ++ flat_map (λ (rec : ModRecord). rec.faults) records) c.deref.ensures.value;
+    }))
+    c.from_records.ensures

@@ -5,7 +5,7 @@ use Rattle.std.specs.List.{AllByRecursion}
 use Rattle.graph_types.specs.Whole.{LieInOrder}
 use Rattle.make_rounds.specs.Record.{IsItemOf, edit_of, import_of}
 use Rattle.make_rounds.specs.Shape.{HasPlaces}
-use Rattle.make_rounds.specs.Statements.{Import, before, request_of, length_of, imports_from}
+use Rattle.make_rounds.specs.today.Statements.{Import, before, request_of, length_of, imports_from}
 use Rattle.make_rounds.proofs.Lists.{all-push}
 use Rattle.make_rounds.proofs.Spans.{lie-push}
 use Rattle.make_rounds.proofs.Statements.{before-append, imports_from-next}

@@ -3,7 +3,7 @@ use Rattle.std.specs.List.{AllByRecursion}
 use Rattle.graph_types.specs.Whole.{LieInOrder}
 use Rattle.make_rounds.specs.Record.{IsItemOf, edit_of, import_of}
 use Rattle.make_rounds.specs.Shape.{HasPlaces}
-use Rattle.make_rounds.specs.Statements.{before, imports_from, imports_of}
+use Rattle.make_rounds.specs.today.Statements.{before, imports_from, imports_of}
 use Rattle.make_rounds.proofs.import.imports.Given as goal
 
 -- the imports so far, before those of what is left, are those of the text

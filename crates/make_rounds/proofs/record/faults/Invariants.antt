@@ -4,4 +4,7 @@ use Rattle.make_rounds.specs.Record.{fault_of}
 use Rattle.make_rounds.proofs.record.faults.Given as goal
 
 abbrev pub invariant-loop-item : goal.invariant-loop-item
-invariant-loop-item l = l.faults.items ≡ filter_map (fault_of l.path l.text) (take l.item-index l.items)
+invariant-loop-item l = record {
+  places : l.places ≡ l.text;
+  faults : l.faults.items ≡ filter_map (fault_of l.path l.text) (take l.item-index l.items);
+}

@@ -1,4 +1,4 @@
-use Rattle.std.proofs.Common.{◌≡◌, ◌++◌, ◌∷◌, [], map, take, sym, ap, subst, ◌∙◌, ◌<◌}
+use Rattle.std.proofs.Common.{◌++◌, ◌∷◌, [], map, take, sym, ap, subst, ◌∙◌, ◌<◌}
 use Rattle.module_code.specs.ModuleText.{record_text}
 use Rattle.pack_run.proofs.Outcomes.{texts-more}
 use Rattle.pack_run.proofs.outcome.texts.Goals as goal

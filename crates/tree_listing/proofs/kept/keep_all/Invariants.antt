@@ -1,4 +1,4 @@
-use Rattle.tree_listing.specs.Walk.{HasKept}
+use Rattle.tree_listing.specs.inner.Kept.{HasKept}
 use Rattle.tree_listing.proofs.kept.keep_all.Given as goal
 
 abbrev pub invariant-loop-entry : goal.invariant-loop-entry

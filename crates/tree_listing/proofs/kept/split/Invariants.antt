@@ -1,4 +1,4 @@
-use Rattle.tree_listing.specs.Walk.{IsSplit}
+use Rattle.tree_listing.specs.inner.Split.{IsSplit}
 use Rattle.tree_listing.proofs.kept.split.Given as goal
 
 abbrev pub invariant-loop-entry : goal.invariant-loop-entry

@@ -1,7 +1,7 @@
 use Rattle.std.proofs.Common.{ℕ, ◌≡◌, ◌∙◌, List, [], ap}
 use Rattle.es_tokens.specs.Answers.{answers_of}
 use Rattle.es_tokens.specs.Context.{context_of}
-use Rattle.es_tokens.specs.Left.{left_of}
+use Rattle.es_tokens.specs.inner.Left.{left_of}
 use Rattle.es_tokens.proofs.AnswerLemmas.{left-all, not-utf8, made-of}
 use Rattle.es_tokens.proofs.lexer.Lexer.new.Goals as goal
 

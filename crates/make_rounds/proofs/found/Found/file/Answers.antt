@@ -1,7 +1,7 @@
 use Rattle.std.proofs.Common.{◌≡◌, ◌<◌, map, length, get_or, sym, ap, subst, ◌∙◌, arith, rules}
 use Rattle.std.proofs.lemmas.List.{get_or-map, length-map}
 use Rattle.fault_place.specs.declared.number.FileId.{FileId}
-use Rattle.make_rounds.specs.Found.{Finding}
+use Rattle.make_rounds.specs.inner.Found.{Finding}
 use Rattle.make_rounds.proofs.Lists.{all-at}
 use Rattle.make_rounds.proofs.found.Found.file.Goals as goal
 

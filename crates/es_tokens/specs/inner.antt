@@ -1,0 +1,9 @@
+pub mod GapMachine
+pub mod Left
+pub mod NameMachine
+pub mod NumberMachine
+pub mod PunctuatorMachine
+pub mod QuotedMachine
+pub mod RegexMachine
+pub mod StepShown
+pub mod TemplateMachine

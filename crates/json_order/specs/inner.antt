@@ -1,0 +1,5 @@
+pub mod Digest
+pub mod Frames
+pub mod Held
+pub mod Modes
+pub mod Steps
