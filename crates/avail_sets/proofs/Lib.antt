@@ -1,0 +1,12 @@
+pub mod Bits
+pub mod Commons
+pub mod Fallen
+pub mod Handing
+pub mod Homes
+pub mod Layered
+pub mod Paths
+pub mod Reading
+pub mod Searching
+pub mod Visits
+pub mod Which
+pub mod Whys

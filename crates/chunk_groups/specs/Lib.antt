@@ -1,0 +1,12 @@
+pub use Rattle.bit_rows.specs.Table
+pub use Rattle.graph_types.specs.Edges
+pub use Rattle.graph_types.specs.GroupList
+pub use Rattle.graph_types.specs.Modules
+pub use Rattle.graph_types.specs.Reached
+pub mod Grouped
+pub mod Grown
+pub mod Histories
+pub mod inner
+pub mod Net
+pub mod Rows
+pub mod Serving

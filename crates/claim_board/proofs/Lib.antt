@@ -1,0 +1,10 @@
+pub mod Callers
+pub mod Claiming
+pub mod Closing
+pub mod Found
+pub mod Gathering
+pub mod Keeping
+pub mod Publishing
+pub mod Showing
+pub mod Telling
+pub mod Whole

@@ -1,0 +1,6 @@
+pub mod CommentLemmas
+pub mod Mapped
+pub mod NameLemmas
+pub mod NumberLemmas
+pub mod QuietLemmas
+pub mod ScanLemmas

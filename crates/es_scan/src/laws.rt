@@ -1,0 +1,19 @@
+//! What holds of the definitions: calls that do nothing and whose clauses are the laws.
+ghost use Rattle.std.specs.Prelude.{◌≡◌, ◌<◌, ◌∷◌, [], ℕ, List, Some, slice_get};
+ghost use Rattle.es_tokens.specs.declared.token.Token.{Token};
+ghost use Rattle.graph_types.specs.declared.item.Item.{Item};
+ghost use Rattle.es_scan.specs.Quiet.{IsQuiet, quiet_scan};
+ghost use Rattle.es_scan.specs.Scan.{item_number, items_at, scan_of, upto};
+
+/// A text without `import`, `export` and `require` gives nothing, but for the edit of a `#!`.
+pub fn quiet_text_gives_nothing()
+    ensures { (path text : List ℕ) (tokens : List Token)
+        → IsQuiet text tokens → scan_of path text tokens ≡ quiet_scan text }
+{}
+
+/// The number that binds, exports, stars and edits have of a token's item is its place among all items.
+pub fn number_names_the_item()
+    ensures { (text : List ℕ) (tokens : List Token) (at size : ℕ) (item : Item)
+        → at < size → items_at text tokens at ≡ item ∷ []
+        → slice_get (upto (items_at text tokens) size) (item_number text tokens at) ≡ Some item }
+{}

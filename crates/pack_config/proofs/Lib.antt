@@ -1,0 +1,10 @@
+pub mod After
+pub mod Alone
+pub mod Clean
+pub mod Kept
+pub mod Least
+pub mod Lifted
+pub mod Meaning
+pub mod Totals
+pub mod Words
+pub mod Written

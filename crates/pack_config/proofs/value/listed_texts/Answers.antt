@@ -1,0 +1,10 @@
+use Rattle.std.proofs.Common.{arith}
+use Rattle.pack_config.specs.Values.{any_text, text_of}
+use Rattle.pack_config.proofs.After.{each_more, kept_more}
+use Rattle.pack_config.proofs.value.listed_texts.Goals as goal
+
+pub loop-item-preserved : goal.loop-item-preserved
+loop-item-preserved c = record {
+  faults = each_more c.args.items.now c.loop-item.item-index c.item-item.result (omega arith) c.item-item.is any_text _ _ _ c.loop-item.invariant.faults c.in_ok-push_text.ensures.faults;
+  value = kept_more c.args.items.now c.loop-item.item-index c.item-item.result (omega arith) c.item-item.is text_of _ _ c.loop-item.invariant.value c.in_ok-push_text.ensures.value;
+}

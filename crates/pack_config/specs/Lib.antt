@@ -1,0 +1,10 @@
+pub use Rattle.asset_names.specs.Template
+pub mod Answer
+pub mod Conditions
+pub mod Entries
+pub mod Faults
+pub mod Grammar
+pub mod Splits
+pub mod Templates
+pub mod Values
+pub mod inner

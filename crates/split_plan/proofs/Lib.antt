@@ -1,0 +1,11 @@
+pub mod Falling
+pub mod Found
+pub mod GreatestOf
+pub mod Keeping
+pub mod NamedRows
+pub mod Orders
+pub mod Places
+pub mod Plans
+pub mod Sets
+pub mod Shares
+pub mod Sizes

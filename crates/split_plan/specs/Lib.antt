@@ -1,0 +1,9 @@
+pub use Rattle.chunk_graph.specs.Chunks
+pub use Rattle.chunk_graph.specs.Moves
+pub use Rattle.graph_types.specs.Modules
+pub mod Candidates
+pub mod Order
+pub mod Plan
+pub mod Shares
+pub mod Step
+pub mod inner

@@ -1,0 +1,2 @@
+pub mod DrawHalves
+pub mod Halves
