@@ -30,12 +30,12 @@ none-past graph infos g m past (steps, walk) =
     no-walk (targets_at graph.records) steps m (subst (λ (roots : List ℕ). Walk (targets_at graph.records) roots m steps) none walk)
 
 module _ (graph : Graph) (infos : List GroupInfo) where
-  pub fresh-filled : (table : Table) (row : List Bool) → table ≡ record { width = length graph.records; rows = replicate (length infos) (blank (length graph.records)) } → row ≡ blank (length graph.records)
-      → IsFilled graph infos table row 0
-  fresh-filled table row is spare = record {
+  pub fresh-filled : (table : Table) (spare : List Bool) → table ≡ record { width = length graph.records; rows = replicate (length infos) (blank (length graph.records)) } → spare ≡ blank (length graph.records)
+      → IsFilled graph infos table spare 0
+  fresh-filled table spare is clear = record {
     rows = ap (λ (t : Table). length t.rows) is ∙ length-replicate (length infos) (blank (length graph.records));
     width = ap (λ (t : Table). t.width) is;
-    spare = spare;
+    spare = clear;
     done = λ k m l. absurd (omega arith);
     left = λ k low l. ap (λ (t : Table). get_or t.rows k []) is ∙ get_or-replicate (length infos) k (blank (length graph.records)) [] l;
   }

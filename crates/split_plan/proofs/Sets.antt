@@ -61,8 +61,8 @@ count_none [] h = refl
 count_none (true ∷ row) h = absurd (true≢false (h 0))
 count_none (false ∷ row) h = let c = count_none row (λ i. h (suc i)) in omega (arith, c, sum_by-cons (λ x. cond x 1 0) false row)
 
-pub none_is_none : (row : List Bool) → NoneTrue row 0 (length row) → (i : ℕ) → is_in row i ≡ false
-none_is_none row none i = elim (cases_lt i (length row)) [ inl lt ↦ none i (omega arith) lt | inr ge ↦ get_or_past row i false ge ]
+pub none_is_none : (places : List Bool) → NoneTrue places 0 (length places) → (i : ℕ) → is_in places i ≡ false
+none_is_none places none i = elim (cases_lt i (length places)) [ inl lt ↦ none i (omega arith) lt | inr ge ↦ get_or_past places i false ge ]
 
 map_range_same : (f g : ℕ → Bool) (a n : ℕ) → ((k : ℕ) → a ≤ k → k < a + n → f k ≡ g k) → map f (range_with_len a n) ≡ map g (range_with_len a n)
 map_range_same f g a zero h = refl
