@@ -8,7 +8,7 @@ use Rattle.std.specs.List.{list_any, starts_with}
 use Rattle.graph_types.specs.declared.part.Part.{Part}
 use Rattle.graph_types.specs.declared.part.Part.TheVariants.{Fixed, Name, Id, Hash}
 use Rattle.graph_types.specs.Parts.{is_part}
-use Rattle.asset_names.specs.Reading.{is_open, is_close, mark_of, number_of, number_behind}
+use Rattle.asset_names.specs.Reading.{is_open, is_close, mark_of, marked_number, number_behind}
 use Rattle.asset_names.specs.Template.{IsSpelling, is_sound, is_fixed}
 use Rattle.asset_names.proofs.Numbers.{number_of-decimal, number_of-some, decimal_shape}
 
@@ -75,7 +75,7 @@ starts_split before word e =
 with_number : (digits n : ℕ) (word : List ℕ) → number_behind (codes "contenthash:") word ≡ Some n → IsMark digits (Hash n) word
 with_number digits n word e = by_test (starts_with eqb word (codes "contenthash:")) refl e
   where
-    by_test : (starts : Bool) → starts_with eqb word (codes "contenthash:") ≡ starts → cond starts (number_of (drop 12 word)) None ≡ Some n → IsMark digits (Hash n) word
+    by_test : (starts : Bool) → starts_with eqb word (codes "contenthash:") ≡ starts → cond starts (marked_number (drop 12 word)) None ≡ Some n → IsMark digits (Hash n) word
     by_test true t e =
         let number = number_of-some (drop 12 word) n e in
         let split = starts_split (codes "contenthash:") word t in

@@ -3,7 +3,7 @@ use Rattle.std.proofs.Common.{◌≡◌, ℕ, ◌+◌, ◌-◌, ◌*◌, ◌/◌
 use Rattle.std.proofs.lemmas.Bool.{and_parts, leb-true, le-leb, cases_lt}
 use Rattle.std.proofs.lemmas.Fmt.{decimal_digit, decimal_step}
 use Rattle.std.specs.Fmt.{decimal}
-use Rattle.asset_names.specs.Reading.{digit_of, up_to_64, number_of}
+use Rattle.asset_names.specs.Reading.{digit_of, up_to_64, marked_number}
 
 -- ---- one digit
 
@@ -40,16 +40,16 @@ up_to_64-some n m e = by_test (leb n 64) refl e
     by_test true t e = let within = leb-true _ _ t in let same : n ≡ m = cc in (same, omega arith)
     by_test false t e = cc
 
-pub number_of-decimal : (n : ℕ) → 1 ≤ n → n ≤ 64 → number_of (decimal n) ≡ Some n
+pub number_of-decimal : (n : ℕ) → 1 ≤ n → n ≤ 64 → marked_number (decimal n) ≡ Some n
 number_of-decimal n low high =
     ⊎_elim
-    (λ (small : n < 10). ap number_of (decimal_digit n small) ∙ digit_of-glyph 1 n low small)
+    (λ (small : n < 10). ap marked_number (decimal_digit n small) ∙ digit_of-glyph 1 n low small)
     (λ (large : 10 ≤ n).
     let tens : digit_of 1 (48 + n / 10) ≡ Some (n / 10) = digit_of-glyph 1 (n / 10) (omega arith) (omega arith) in
     let ones : digit_of 0 (48 + n % 10) ≡ Some (n % 10) = digit_of-glyph 0 (n % 10) (omega arith) (omega arith) in
     let whole : 10 * (n / 10) + n % 10 ≡ n = omega arith in
     let within : leb n 64 ≡ true = le-leb _ _ high in
-    ap number_of (decimal_two n large high) ∙ rw (tens, ones, whole, within))
+    ap marked_number (decimal_two n large high) ∙ rw (tens, ones, whole, within))
     (cases_lt n 10)
 
 two_digits : (tens ones n : ℕ) (ten one : Option ℕ) → digit_of 1 tens ≡ ten → digit_of 0 ones ≡ one → option_and_then (λ (t : ℕ). option_and_then (λ (o : ℕ). up_to_64 (10 * t + o)) one) ten ≡ Some n → (1 ≤ n) × (n ≤ 64) × (tens ∷ ones ∷ [] ≡ decimal n)
@@ -66,7 +66,7 @@ two_digits tens ones n (Some t) (Some o) et eo e =
     let spelled : tens ∷ ones ∷ [] ≡ (48 + n / 10) ∷ (48 + n % 10) ∷ [] = cc in
     (omega arith, whole.1, spelled ∙ sym (decimal_two n (omega arith) whole.1))
 
-pub number_of-some : (text : List ℕ) (n : ℕ) → number_of text ≡ Some n → (1 ≤ n) × (n ≤ 64) × (text ≡ decimal n)
+pub number_of-some : (text : List ℕ) (n : ℕ) → marked_number text ≡ Some n → (1 ≤ n) × (n ≤ 64) × (text ≡ decimal n)
 number_of-some [] n e = cc
 number_of-some (ones ∷ []) n e =
     let at = digit_of-some 1 ones n e in

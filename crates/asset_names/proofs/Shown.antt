@@ -7,7 +7,8 @@ use Rattle.std.specs.Str.{IsAscii}
 use Rattle.graph_types.specs.declared.part.Part.{Part}
 use Rattle.graph_types.specs.declared.part.Part.TheVariants.{Fixed, Name, Id, Hash}
 use Rattle.asset_names.specs.Hash.{whole_hash_of}
-use Rattle.asset_names.specs.Names.{hash_in, is_hash, name_from, shown_part, shown_with}
+use Rattle.asset_names.specs.Names.{name_from, shown_part}
+use Rattle.asset_names.specs.inner.Shown.{hash_in, is_hash, shown_with}
 use Rattle.asset_names.proofs.Hashes.{whole_hash_of-ascii}
 
 shown_one : (name : Option (List ℕ)) (id : ℕ) (bytes hash : List ℕ) (part : Part) → (is_hash part ≡ true → hash ≡ whole_hash_of bytes) → shown_with name id hash part ≡ shown_part name id bytes part

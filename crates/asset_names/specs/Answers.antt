@@ -1,5 +1,5 @@
 -- What the reader of templates answers (this project).
-use Rattle.std.specs.Prelude.{◌≡◌, ◌⊎◌, ℕ, List, Option, Some, None, Result, MatchResult}
+use Rattle.std.specs.Prelude.{◌≡◌, ◌⊎◌, ℕ, List, Result, MatchResult}
 use Rattle.graph_types.specs.declared.part.Part.{Part}
 use Rattle.graph_types.specs.declared.template.Template.{Template}
 use Rattle.asset_names.specs.Template.{IsTemplateOf}
@@ -11,9 +11,3 @@ abbrev pub AnswersTemplate : ℕ → List ℕ → Result Template TemplateEnd �
 AnswersTemplate digits text result =
     MatchResult result (λ template. IsTemplateOf digits text template.parts)
     (λ end. (end ≡ NoMemory) ⊎ ((end ≡ BadTemplate) × ((parts : List Part) → ¬ (IsTemplateOf digits text parts))))
-
--- the parts that are defined; or memory ran out, or none are. `shown` is what a caller sees of an Ok.
-abbrev pub GivesParts : {A : Type 0} → Option (List Part) → (A → List Part) → Result A TemplateEnd → Type 0
-GivesParts defined shown result =
-    MatchResult result (λ value. defined ≡ Some (shown value))
-    (λ end. (end ≡ NoMemory) ⊎ ((end ≡ BadTemplate) × (defined ≡ None)))

@@ -1,7 +1,7 @@
 pub mod Answers
 pub mod Clashes
-pub mod Firsts
 pub mod Hash
+pub mod inner
 pub mod Message
 pub mod Names
 pub mod Reading

@@ -19,15 +19,15 @@ abbrev pub up_to_64 : ℕ → Option ℕ
 up_to_64 n = if nat_le n 64 then Some n else None
 
 -- a number from 1 to 64 in decimal
-abbrev pub number_of : List ℕ → Option ℕ
-number_of [] = None
-number_of (ones ∷ []) = digit_of 1 ones
-number_of (tens ∷ ones ∷ []) =
+abbrev pub marked_number : List ℕ → Option ℕ
+marked_number [] = None
+marked_number (ones ∷ []) = digit_of 1 ones
+marked_number (tens ∷ ones ∷ []) =
     option_and_then (λ ten. option_and_then (λ one. up_to_64 (10 * ten + one)) (digit_of 0 ones)) (digit_of 1 tens)
-number_of (first ∷ second ∷ third ∷ rest) = None
+marked_number (first ∷ second ∷ third ∷ rest) = None
 
 abbrev pub number_behind : List ℕ → List ℕ → Option ℕ
-number_behind before word = if starts_with nat_eq word before then number_of (drop (length before) word) else None
+number_behind before word = if starts_with nat_eq word before then marked_number (drop (length before) word) else None
 
 -- what a word between brackets stands for
 abbrev pub mark_of : ℕ → List ℕ → Option Part

@@ -1,5 +1,5 @@
 ghost use Rattle.std.specs.Prelude.{◌≡◌, ◌≤◌, ◌<◌, IfSome};
-ghost use Rattle.asset_names.specs.Reading.{digit_of, mark_of, number_of};
+ghost use Rattle.asset_names.specs.Reading.{digit_of, mark_of, marked_number};
 
 use graph_types::Part;
 
@@ -20,7 +20,7 @@ pub fn read_mark(word: &str, digits: u32) -> Option<Part>
 
 /// A number from 1 to 64 in decimal digits, the first of them not 0.
 fn read_number(text: &str) -> Option<u32>
-    ensures { result ≡ number_of text.now }
+    ensures { result ≡ marked_number text.now }
 {
     let number = match text.as_bytes() {
         [ones] => digit_at(*ones, 1)?,

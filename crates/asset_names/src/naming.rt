@@ -3,7 +3,8 @@ ghost use Rattle.std.specs.List.{flat_map, list_any};
 ghost use Rattle.std.specs.Fmt.{decimal};
 ghost use Rattle.std.specs.Option.{option_copied};
 ghost use Rattle.std.specs.Str.{IsAscii};
-ghost use Rattle.asset_names.specs.Names.{hash_in, is_hash, name_from, shown_with};
+ghost use Rattle.asset_names.specs.Names.{name_from};
+ghost use Rattle.asset_names.specs.inner.Shown.{hash_in, is_hash, shown_with};
 
 use crate::hash::whole_hash;
 use fault_place::{NoMemory, Text};

@@ -1,6 +1,7 @@
 ghost use Rattle.std.specs.Prelude.{◌≡◌, ◌≤◌, IfOk, string_bytes};
 ghost use Rattle.std.specs.List.{flat_map, list_any, slice_split};
-ghost use Rattle.asset_names.specs.Answers.{AnswersTemplate, GivesParts};
+ghost use Rattle.asset_names.specs.Answers.{AnswersTemplate};
+ghost use Rattle.asset_names.specs.inner.Given.{GivesParts};
 ghost use Rattle.asset_names.specs.Reading.{is_close, is_open, read_pieces, with_all, with_fixed, with_marked};
 ghost use Rattle.asset_names.specs.Template.{letter_for};
 

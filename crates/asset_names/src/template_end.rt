@@ -1,5 +1,5 @@
 ghost use Rattle.std.specs.Prelude.{◌≡◌, Some};
-ghost use Rattle.asset_names.specs.Message.{message_of};
+ghost use Rattle.asset_names.specs.Message.{template_message};
 ghost use Rattle.asset_names.specs.declared.template_end.TemplateEnd.TheVariants.{NoMemory};
 
 use std::alloc::{AllocError, AllocFailed};
@@ -15,7 +15,7 @@ pub enum TemplateEnd {
 }
 
 impl fmt::Display for TemplateEnd {
-    ghost output = { λ end. Some (message_of end) };
+    ghost output = { λ end. Some (template_message end) };
 
     fn fmt<W: fmt::Write>(&self, f: &mut fmt::Formatter<W>) -> fmt::Result {
         f.write_str(match self {

@@ -12,7 +12,8 @@ use crate::combining::combine;
 use crate::comparing::{are_zero, first_of_some, is_none};
 use crate::counting::count_of_ones;
 use crate::operations::{Differ, Meet, Minus, Union, WordOperation};
-use std::alloc::{AllocError, Global};
+use pack_util::NoMemory;
+use std::alloc::Global;
 use std::marker::Model;
 
 /// A row of truth values, its places counted from 0.
@@ -36,7 +37,7 @@ impl Model for BitRow {
 
 impl BitRow {
     /// A row with no true place.
-    pub fn new(alloc: Global, len: u32) -> Result<BitRow, AllocError>
+    pub fn new(alloc: Global, len: u32) -> Result<BitRow, NoMemory>
         ensures { IfOk result (λ row. row ≡ blank len) }
     {
         let words = vec![in alloc; 0u64; len.div_ceil(WORD_BITS) as usize]?;
@@ -44,7 +45,7 @@ impl BitRow {
     }
 
     /// A row with every place true.
-    pub fn full(alloc: Global, len: u32) -> Result<BitRow, AllocError>
+    pub fn full(alloc: Global, len: u32) -> Result<BitRow, NoMemory>
         ensures { IfOk result (λ row. row ≡ replicate len true) }
     {
         if len == 0 {
@@ -57,7 +58,7 @@ impl BitRow {
     }
 
     /// Adds places that are not true, up to the new length.
-    pub fn grow(&mut self, _alloc: Global, len: u32) -> Result<(), AllocError>
+    pub fn grow(&mut self, _alloc: Global, len: u32) -> Result<(), NoMemory>
         requires { length self.old ≤ len }
         ensures ok { OnOk result (self.new ≡ self.old ++ blank (len - length self.old)) }
         ensures err { OnErr result (self.new ≡ self.old) }

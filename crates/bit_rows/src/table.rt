@@ -4,7 +4,8 @@ ghost use Rattle.std.specs.Prelude.{◌≡◌, ◌-◌, ◌<◌, ◌≤◌, ◌+
 ghost use Rattle.bit_rows.specs.Table.{Table, IsEven, blank};
 
 use crate::row::BitRow;
-use std::alloc::{AllocError, Global};
+use pack_util::NoMemory;
+use std::alloc::Global;
 use std::marker::Model;
 use std::mem;
 
@@ -29,7 +30,7 @@ impl Model for BitTable {
 
 impl BitTable {
     /// Rows with no true place.
-    pub fn new(alloc: Global, rows: u32, len: u32) -> Result<BitTable, AllocError>
+    pub fn new(alloc: Global, rows: u32, len: u32) -> Result<BitTable, NoMemory>
         ensures { IfOk result
             (λ table. table ≡ record { width = len; rows = replicate rows (blank len) }) }
     {
@@ -76,7 +77,7 @@ impl BitTable {
     }
 
     /// Adds rows with no true place, up to the new number of rows.
-    pub fn grow(&mut self, alloc: Global, rows: u32) -> Result<(), AllocError>
+    pub fn grow(&mut self, alloc: Global, rows: u32) -> Result<(), NoMemory>
         requires { length self.old.rows ≤ rows }
         ensures ok { OnOk result (self.new
             ≡ record self.old { rows = self.old.rows ++ replicate (rows - length self.old.rows) (blank self.old.width) }) }
@@ -97,7 +98,7 @@ fn add_blank(
     rows: &mut Vec<BitRow>,
     width: u32,
     count: usize,
-) -> Result<(), AllocError>
+) -> Result<(), NoMemory>
     requires { length rows.old.items ≤ count }
     ensures ok { OnOk result
         (rows.new.items ≡ rows.old.items ++ replicate (count - length rows.old.items) (blank width)) }

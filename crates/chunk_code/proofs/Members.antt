@@ -1,7 +1,8 @@
 -- The members of a chunk's object, one module after another.
 use Rattle.std.proofs.Common.{◌≡◌, ℕ, ◌+◌, List, [], ◌∷◌, ◌++◌, append_assoc, append-nil, codes, refl, ap, ◌∙◌}
 use Rattle.std.specs.List.{enumerate_from, flat_map, join_by}
-use Rattle.chunk_code.specs.Texts.{line_end, member_text, last_end}
+use Rattle.chunk_code.specs.Texts.{member_text, last_end}
+use Rattle.chunk_code.specs.inner.Lines.{line_end}
 
 -- what is written from a module on, whose number is given
 abbrev pub members_from : ℕ → List (List ℕ) → List ℕ

@@ -36,10 +36,3 @@ startup_text roots = codes "self.__chunkpack.e([]).then(function(){\n" ++ flat_m
 -- the chunk of an entry: the runtime, its modules, and the start
 abbrev pub entry_text : ℕ → List (List ℕ) → List ModuleNo → List ℕ
 entry_text chunk modules roots = runtime_text ++ add_text chunk modules ++ startup_text roots
-
--- ---- for private clauses
-
--- what stands behind a module's text: a comma where another follows
-abbrev pub line_end : List (List ℕ) → List ℕ
-line_end [] = codes "\n"
-line_end (next ∷ rest) = codes ",\n"

@@ -1,5 +1,6 @@
 ghost use Rattle.std.specs.Prelude.{◌≡◌, ◌++◌, flat_map, OnOk, IfOk};
-ghost use Rattle.chunk_code.specs.Texts.{line_end, members_text, add_text, runtime_text, start_text, startup_text, entry_text};
+ghost use Rattle.chunk_code.specs.Texts.{members_text, add_text, runtime_text, start_text, startup_text, entry_text};
+ghost use Rattle.chunk_code.specs.inner.Lines.{line_end};
 
 use crate::runtime::runtime_functions;
 use fault_place::{Bytes, ModuleNo, NoMemory};

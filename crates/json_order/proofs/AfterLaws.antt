@@ -9,7 +9,7 @@ use Rattle.json_order.specs.declared.frame.Frame.TheVariants as frame
 use Rattle.json_order.specs.declared.mode.Mode.TheVariants as mode
 use Rattle.json_order.specs.declared.reader.Reader.{Reader}
 use Rattle.json_order.specs.Grammar.{IsSpace, Space, MoreItems, MoreMembers, Member, Value}
-use Rattle.json_order.specs.inner.Steps.{tree_at, place_in, after_step, spaced, is_space, comma_in, closed_list, closed_object}
+use Rattle.json_order.specs.inner.Steps.{tree_at, put_value, after_step, spaced, is_space, comma_in, closed_list, closed_object}
 use Rattle.json_order.specs.inner.Frames.{inner_of}
 use Rattle.json_order.specs.Members.{merged}
 use Rattle.json_order.proofs.Rest.{Plan, root_of, Behind, RestAfter, Lands}
@@ -32,11 +32,11 @@ module _ (start : ℕ) (word : List ℕ) (high : Option ℕ) (is_key : Bool) (ro
       → MoreItems (Value deep) more (Behind (suc deep) frames plan) at (b ∷ rest)
       → Goal (frame.List p xs ∷ frames) b
   list_on p xs frames [] plan b e h =
-      let k : Lands (suc deep + length frames) (Some (place_in (after (frame.List p xs ∷ frames)) (tree_at p (node.List xs)) frames)) t (at + 1) rest
+      let k : Lands (suc deep + length frames) (Some (put_value (after (frame.List p xs ∷ frames)) (tree_at p (node.List xs)) frames)) t (at + 1) rest
       = place_on (after (frame.List p xs ∷ frames)) (tree_at p (node.List xs)) frames plan (suc deep) t (at + 1) rest (sym (closed_root p frames plan xs) ∙ e) h.1 in
       let same : suc deep + length frames ≡ deep + length (frame.List p xs ∷ frames) = omega arith in
       subst (λ (c : ℕ). Goal (frame.List p xs ∷ frames) c) (sym h.0)
-      (subst (λ (n : ℕ). Lands n (Some (place_in (after (frame.List p xs ∷ frames)) (tree_at p (node.List xs)) frames)) t (at + 1) rest) same k)
+      (subst (λ (n : ℕ). Lands n (Some (put_value (after (frame.List p xs ∷ frames)) (tree_at p (node.List xs)) frames)) t (at + 1) rest) same k)
   list_on p xs frames (x ∷ more) plan b e h =
       subst (λ (c : ℕ). Goal (frame.List p xs ∷ frames) c) (sym h.0) (deep, refl, (x, (more, plan), e, h.1))
 
@@ -46,11 +46,11 @@ module _ (start : ℕ) (word : List ℕ) (high : Option ℕ) (is_key : Bool) (ro
       → Goal (frame.Object p ms key key_at ∷ frames) b
   object_on p ms key key_at frames [] plan b e h =
       let f : Frame = frame.Object p ms key key_at in
-      let k : Lands (suc deep + length frames) (Some (place_in (after (f ∷ frames)) (tree_at p (node.Object ms)) frames)) t (at + 1) rest
+      let k : Lands (suc deep + length frames) (Some (put_value (after (f ∷ frames)) (tree_at p (node.Object ms)) frames)) t (at + 1) rest
       = place_on (after (f ∷ frames)) (tree_at p (node.Object ms)) frames plan (suc deep) t (at + 1) rest e h.1 in
       let same : suc deep + length frames ≡ deep + length (f ∷ frames) = omega arith in
       subst (λ (c : ℕ). Goal (f ∷ frames) c) (sym h.0)
-      (subst (λ (n : ℕ). Lands n (Some (place_in (after (f ∷ frames)) (tree_at p (node.Object ms)) frames)) t (at + 1) rest) same k)
+      (subst (λ (n : ℕ). Lands n (Some (put_value (after (f ∷ frames)) (tree_at p (node.Object ms)) frames)) t (at + 1) rest) same k)
   object_on p ms key key_at frames (q ∷ more) plan b e h =
       subst (λ (c : ℕ). Goal (frame.Object p ms key key_at ∷ frames) c) (sym h.0) (deep, refl, (q, more, plan, e, h.1))
 
@@ -77,18 +77,18 @@ module _ (start : ℕ) (word : List ℕ) (high : Option ℕ) (is_key : Bool) (ro
       ]
 
   list_closed : (p : ℕ) (xs : List JsonTree) (frames : List Frame) (b : ℕ) → b ≡ 93
-      → Lands (deep + length (frame.List p xs ∷ frames)) (Some (place_in (after (frame.List p xs ∷ frames)) (tree_at p (node.List xs)) frames)) t (at + 1) rest
+      → Lands (deep + length (frame.List p xs ∷ frames)) (Some (put_value (after (frame.List p xs ∷ frames)) (tree_at p (node.List xs)) frames)) t (at + 1) rest
       → RestAfter deep (frame.List p xs ∷ frames) root t at (b ∷ rest)
   list_closed p xs frames b is h =
       let r : Reader = after (frame.List p xs ∷ frames) in
       let same : deep + length (frame.List p xs ∷ frames) ≡ suc deep + length frames = omega arith in
       let k : (plan : Plan frames) × (root_of frames plan (tree_at p (node.List xs)) ≡ t) × Behind (suc deep) frames plan (at + 1) rest
       = place_back r (tree_at p (node.List xs)) frames (suc deep) t (at + 1) rest
-      (subst (λ (n : ℕ). Lands n (Some (place_in r (tree_at p (node.List xs)) frames)) t (at + 1) rest) same h) in
+      (subst (λ (n : ℕ). Lands n (Some (put_value r (tree_at p (node.List xs)) frames)) t (at + 1) rest) same h) in
       ([], k.0, closed_root p frames k.0 xs ∙ k.1, inl (is, k.2))
 
   object_closed : (p : ℕ) (ms : List JsonPair) (key : List ℕ) (key_at : ℕ) (frames : List Frame) (b : ℕ) → b ≡ 125
-      → Lands (deep + length (frame.Object p ms key key_at ∷ frames)) (Some (place_in (after (frame.Object p ms key key_at ∷ frames)) (tree_at p (node.Object ms)) frames)) t (at + 1) rest
+      → Lands (deep + length (frame.Object p ms key key_at ∷ frames)) (Some (put_value (after (frame.Object p ms key key_at ∷ frames)) (tree_at p (node.Object ms)) frames)) t (at + 1) rest
       → RestAfter deep (frame.Object p ms key key_at ∷ frames) root t at (b ∷ rest)
   object_closed p ms key key_at frames b is h =
       let f : Frame = frame.Object p ms key key_at in
@@ -96,7 +96,7 @@ module _ (start : ℕ) (word : List ℕ) (high : Option ℕ) (is_key : Bool) (ro
       let same : deep + length (f ∷ frames) ≡ suc deep + length frames = omega arith in
       let k : (plan : Plan frames) × (root_of frames plan (tree_at p (node.Object ms)) ≡ t) × Behind (suc deep) frames plan (at + 1) rest
       = place_back r (tree_at p (node.Object ms)) frames (suc deep) t (at + 1) rest
-      (subst (λ (n : ℕ). Lands n (Some (place_in r (tree_at p (node.Object ms)) frames)) t (at + 1) rest) same h) in
+      (subst (λ (n : ℕ). Lands n (Some (put_value r (tree_at p (node.Object ms)) frames)) t (at + 1) rest) same h) in
       ([], k.0, k.1, inl (is, k.2))
 
   list_comma : (p : ℕ) (xs : List JsonTree) (frames : List Frame) (b : ℕ) → b ≡ 44

@@ -16,7 +16,7 @@ use Rattle.json_order.specs.declared.mode.Letters.TheVariants as letters
 use Rattle.json_order.specs.declared.reader.Reader.{Reader}
 use Rattle.json_order.specs.Grammar.{Word, Value, Form, null, boolean, number, string, array, object, Formed, Items, MoreItems, Members, MoreMembers, Piece, plain, escape, unit, spelled, IsPiece, IsUnescaped, Chars}
 use Rattle.json_order.specs.inner.Modes.{is_final}
-use Rattle.json_order.specs.inner.Steps.{tree_at, place_in, closed_number, finished, finish_in, root_at}
+use Rattle.json_order.specs.inner.Steps.{tree_at, put_value, closed_number, finished, finish_in, root_at}
 use Rattle.json_order.proofs.Rest.{Rest, RestOfFirstItem, RestOfFirstKey, RestOfKey, RestOfColon, RestAfter, RestOfNumber, left_of}
 use Rattle.json_order.proofs.Tests.{tested}
 use Rattle.json_order.proofs.Places.{reader}
@@ -123,7 +123,7 @@ module _ (deep : ℕ) (t : JsonTree) (at : ℕ) where
     number_end p [] utf8 ([], plan, is, e, h) =
         let root_is : tree_at start (node.Number word) ≡ t = ap (λ (w : List ℕ). tree_at start (node.Number w)) (sym (append-nil word)) ∙ e in
         subst (λ (v : Bool). cond v (option_and_then (λ s. root_at s.root s.stack) (closed_number (reader (mode.Number p) start word high is_key [] root))) None ≡ Some t) (sym is)
-        (subst (λ (v : Bool). option_and_then (λ s. root_at s.root s.stack) (cond v (Some (place_in (reader (mode.Number p) start [] high is_key [] root) (tree_at start (node.Number word)) [])) None) ≡ Some t) (sym utf8)
+        (subst (λ (v : Bool). option_and_then (λ s. root_at s.root s.stack) (cond v (Some (put_value (reader (mode.Number p) start [] high is_key [] root) (tree_at start (node.Number word)) [])) None) ≡ Some t) (sym utf8)
         (ap Some root_is))
     number_end p (frame.List q xs ∷ frames) utf8 ([], plan, is, e, h) = absurd (no_more_items deep plan.0 _ at h)
     number_end p (frame.Object q ms key key_at ∷ frames) utf8 ([], plan, is, e, h) = absurd (no_more_members deep plan.0 _ at h)
@@ -132,7 +132,7 @@ module _ (deep : ℕ) (t : JsonTree) (at : ℕ) where
     Closed p frames o = option_and_then (λ s. root_at s.root s.stack) o ≡ Some t
 
     end_placed : (p : Part) (frames : List Frame) → is_final p ≡ true
-        → Closed p frames (Some (place_in (reader (mode.Number p) start [] high is_key frames root) (tree_at start (node.Number word)) frames)) → RestOfNumber deep frames start word p t at []
+        → Closed p frames (Some (put_value (reader (mode.Number p) start [] high is_key frames root) (tree_at start (node.Number word)) frames)) → RestOfNumber deep frames start word p t at []
     end_placed p [] final e = ([], tt, final, ap (λ (w : List ℕ). tree_at start (node.Number w)) (append-nil word) ∙ cc, tt)
     end_placed p (frame.List q xs ∷ frames) final e = cc
     end_placed p (frame.Object q ms key key_at ∷ frames) final e = cc
@@ -140,7 +140,7 @@ module _ (deep : ℕ) (t : JsonTree) (at : ℕ) where
     end_number : (p : Part) (frames : List Frame) → Ends p frames → RestOfNumber deep frames start word p t at []
     end_number p frames e =
         elim (tested (λ (o : Option JsonTree). o ≡ Some t) (is_final p) (option_and_then (λ s. root_at s.root s.stack) (closed_number (reader (mode.Number p) start word high is_key frames root))) None e) [
-          | inl g ↦ elim (tested (Closed p frames) (is_utf8 word) (Some (place_in (reader (mode.Number p) start [] high is_key frames root) (tree_at start (node.Number word)) frames)) None g.1) [
+          | inl g ↦ elim (tested (Closed p frames) (is_utf8 word) (Some (put_value (reader (mode.Number p) start [] high is_key frames root) (tree_at start (node.Number word)) frames)) None g.1) [
             | inl k ↦ end_placed p frames g.0 k.1
             | inr k ↦ cc
           ]

@@ -12,7 +12,7 @@ use Rattle.json_order.specs.declared.mode.Mode.TheVariants as mode
 use Rattle.json_order.specs.declared.reader.Reader.{Reader}
 use Rattle.json_order.specs.Grammar.{Word, IsSpace, Space, Items, Members, MoreMembers, Member, Value, Chars, content_of}
 use Rattle.json_order.specs.Members.{put, merged}
-use Rattle.json_order.specs.inner.Steps.{tree_at, place_in, value_step, first_item_step, key_step, first_key_step, colon_step, closed_list, closed_object, spaced, is_space, string_at, in_mode}
+use Rattle.json_order.specs.inner.Steps.{tree_at, put_value, value_step, first_item_step, key_step, first_key_step, colon_step, closed_list, closed_object, spaced, is_space, string_at, in_mode}
 use Rattle.json_order.proofs.Rest.{Plan, root_of, Behind, Lands, RestOfFirstItem, RestOfFirstKey, RestOfKey, RestOfColon, RestOfValue, colon}
 use Rattle.json_order.proofs.Tests.{by_test, tested, at_space, same_depth, space_from_test}
 use Rattle.json_order.proofs.Places.{reader, place_on, place_back}
@@ -25,17 +25,17 @@ closed_root p frames plan xs = ap (λ (all : List JsonTree). root_of frames plan
 -- the value that is whole once its bracket closes
 pub closes_on : (r : Reader) (n : JsonNode) (p : ℕ) (frames : List Frame) (plan : Plan frames) (deep : ℕ) (t : JsonTree) (at : ℕ) (text : List ℕ)
     → root_of frames plan (tree_at p n) ≡ t → Behind (suc deep) frames plan at text
-    → Lands (deep + suc (length frames)) (Some (place_in r (tree_at p n) frames)) t at text
+    → Lands (deep + suc (length frames)) (Some (put_value r (tree_at p n) frames)) t at text
 closes_on r n p frames plan deep t at text e h =
     let same : suc deep + length frames ≡ deep + suc (length frames) = omega arith in
-    subst (λ (k : ℕ). Lands k (Some (place_in r (tree_at p n) frames)) t at text) same (place_on r (tree_at p n) frames plan (suc deep) t at text e h)
+    subst (λ (k : ℕ). Lands k (Some (put_value r (tree_at p n) frames)) t at text) same (place_on r (tree_at p n) frames plan (suc deep) t at text e h)
 
 pub closes_back : (r : Reader) (n : JsonNode) (p : ℕ) (frames : List Frame) (deep : ℕ) (t : JsonTree) (at : ℕ) (text : List ℕ)
-    → Lands (deep + suc (length frames)) (Some (place_in r (tree_at p n) frames)) t at text
+    → Lands (deep + suc (length frames)) (Some (put_value r (tree_at p n) frames)) t at text
     → (plan : Plan frames) × (root_of frames plan (tree_at p n) ≡ t) × Behind (suc deep) frames plan at text
 closes_back r n p frames deep t at text h =
     let same : deep + suc (length frames) ≡ suc deep + length frames = omega arith in
-    place_back r (tree_at p n) frames (suc deep) t at text (subst (λ (k : ℕ). Lands k (Some (place_in r (tree_at p n) frames)) t at text) same h)
+    place_back r (tree_at p n) frames (suc deep) t at text (subst (λ (k : ℕ). Lands k (Some (put_value r (tree_at p n) frames)) t at text) same h)
 
 module _ (start : ℕ) (word : List ℕ) (high : Option ℕ) (is_key : Bool) (root : Option JsonTree) (deep : ℕ) (t : JsonTree) (at : ℕ) (rest : List ℕ) where
   module _ (p : ℕ) (xs : List JsonTree) (frames : List Frame) where

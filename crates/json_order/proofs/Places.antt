@@ -6,7 +6,7 @@ use Rattle.json_order.specs.declared.frame.Frame.{Frame}
 use Rattle.json_order.specs.declared.frame.Frame.TheVariants as frame
 use Rattle.json_order.specs.declared.mode.Mode.{Mode}
 use Rattle.json_order.specs.declared.reader.Reader.{Reader}
-use Rattle.json_order.specs.inner.Steps.{tree_at, place_in}
+use Rattle.json_order.specs.inner.Steps.{tree_at, put_value}
 use Rattle.json_order.proofs.Rest.{Plan, root_of, Behind, Lands}
 use Rattle.json_order.proofs.Tests.{same_depth}
 
@@ -22,14 +22,14 @@ list_root p frames plan xs x more =
 
 pub place_on : (r : Reader) (x : JsonTree) (frames : List Frame) (plan : Plan frames) (deep : ℕ) (t : JsonTree) (at : ℕ) (text : List ℕ)
     → root_of frames plan x ≡ t → Behind deep frames plan at text
-    → Lands (deep + length frames) (Some (place_in r x frames)) t at text
+    → Lands (deep + length frames) (Some (put_value r x frames)) t at text
 place_on r x [] plan deep t at text e h = (deep, refl, (ap Some e, h))
 place_on r x (frame.List p xs ∷ frames) plan deep t at text e h =
     (deep, refl, (plan.0, plan.1, list_root p frames plan.1 xs x plan.0 ∙ e, h))
 place_on r x (frame.Object p ms key key_at ∷ frames) plan deep t at text e h = (deep, refl, (plan.0, plan.1, e, h))
 
 pub place_back : (r : Reader) (x : JsonTree) (frames : List Frame) (deep : ℕ) (t : JsonTree) (at : ℕ) (text : List ℕ)
-    → Lands (deep + length frames) (Some (place_in r x frames)) t at text
+    → Lands (deep + length frames) (Some (put_value r x frames)) t at text
     → (plan : Plan frames) × (root_of frames plan x ≡ t) × Behind deep frames plan at text
 place_back r x [] deep t at text (d, same, h) = (tt, cc h.0, h.1)
 place_back r x (frame.List p xs ∷ frames) deep t at text (d, same, h) =

@@ -21,7 +21,7 @@ use Rattle.json_order.specs.declared.reader.Reader.{Reader}
 use Rattle.json_order.specs.Grammar.{Tails, tails_of, AreTails, escaped, is_high, is_low, character, paired}
 use Rattle.json_order.specs.inner.Frames.{inner_of}
 use Rattle.json_order.specs.inner.Modes.{first_part, next_part, first_digit, digit, or_else, after_integer, after_fraction, sign, is_final, letter_of, letters_after, named, with_digit}
-use Rattle.json_order.specs.inner.Steps.{tree_at, place_in, placed, spaced, is_space, value_step, begin_at, other_at, string_at, key_step, after_step, comma_in, closed_list, close_list_of, closed_object, close_object_of, name_on, number_on, closed_number, chars_step, tail_on, escape_on, digits_on, unit_after, lone_unit, tail_mode, close_string_of, string_done, keyed_in, ended, alone, with_bytes, in_mode, step_in}
+use Rattle.json_order.specs.inner.Steps.{tree_at, put_value, with_value, spaced, is_space, value_step, begin_at, other_at, string_at, key_step, after_step, comma_in, closed_list, close_list_of, closed_object, close_object_of, name_on, number_on, closed_number, chars_step, tail_on, escape_on, digits_on, unit_after, lone_unit, tail_mode, close_string_of, string_done, keyed_in, ended, alone, with_bytes, in_mode, step_in}
 use Rattle.json_order.proofs.Tests.{by_test, tested, either}
 use Rattle.json_order.proofs.Utf8Laws.{IsUtf8-ascii, IsUtf8-character, RowLaws, row_laws}
 use Rattle.json_order.proofs.NumberLaws.{digit_from_test}
@@ -74,7 +74,7 @@ abbrev pub AllValid : Option Reader → Type 0
 AllValid None = Unit {0}
 AllValid (Some r) = Valid r
 
-place_valid : (r : Reader) (x : JsonTree) (frames : List Frame) → Valid (place_in r x frames)
+place_valid : (r : Reader) (x : JsonTree) (frames : List Frame) → Valid (put_value r x frames)
 place_valid r x [] = (x, refl)
 place_valid r x (frame.List p xs ∷ frames) = tt
 place_valid r x (frame.Object p ms key key_at ∷ frames) = tt
@@ -178,8 +178,8 @@ number_valid r p b (Some q) e h = IsUtf8-append r.word (b ∷ []) h (IsUtf8-asci
 number_valid r p b None e h =
     by_test AllValid (is_final p) (option_and_then (λ s. after_step s b) (closed_number r)) None
     (λ _. by_test (λ (o : Option Reader). AllValid (option_and_then (λ s. after_step s b) o)) (is_utf8 r.word)
-    (Some (placed (record r { word = [] }) (tree_at r.start (node.Number r.word)))) None
-    (λ _. after_valid (placed (record r { word = [] }) (tree_at r.start (node.Number r.word))) b (place_valid (record r { word = [] }) (tree_at r.start (node.Number r.word)) r.stack))
+    (Some (with_value (record r { word = [] }) (tree_at r.start (node.Number r.word)))) None
+    (λ _. after_valid (with_value (record r { word = [] }) (tree_at r.start (node.Number r.word))) b (place_valid (record r { word = [] }) (tree_at r.start (node.Number r.word)) r.stack))
     (λ _. tt))
     (λ _. tt)
 
@@ -198,7 +198,7 @@ keyed_valid r content (frame.Object p ms key key_at ∷ frames) = tt
 closed_string_valid : (r : Reader) → AllValid (close_string_of r)
 closed_string_valid r =
     by_test AllValid (is_utf8 r.word) (string_done (record r { word = [] }) r.word) None
-    (λ _. by_test AllValid r.is_key (keyed_in (record r { word = [] }) r.word r.stack) (Some (placed (record r { word = [] }) (tree_at r.start (node.Str r.word))))
+    (λ _. by_test AllValid r.is_key (keyed_in (record r { word = [] }) r.word r.stack) (Some (with_value (record r { word = [] }) (tree_at r.start (node.Str r.word))))
     (λ _. keyed_valid (record r { word = [] }) r.word r.stack)
     (λ _. place_valid (record r { word = [] }) (tree_at r.start (node.Str r.word)) r.stack))
     (λ _. tt)

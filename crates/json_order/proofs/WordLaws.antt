@@ -16,7 +16,7 @@ use Rattle.json_order.specs.declared.reader.Reader.{Reader}
 use Rattle.json_order.specs.Grammar.{Word, IsSpace, MoreItems, MoreMembers, Value}
 use Rattle.json_order.specs.Members.{put}
 use Rattle.json_order.specs.inner.Modes.{next_part, is_final, letter_of, letters_after, named}
-use Rattle.json_order.specs.inner.Steps.{tree_at, place_in, name_step, name_on, number_step, number_on, closed_number, after_step}
+use Rattle.json_order.specs.inner.Steps.{tree_at, put_value, name_step, name_on, number_step, number_on, closed_number, after_step}
 use Rattle.json_order.proofs.Rest.{Plan, root_of, Behind, Lands, RestOfName, RestOfNumber, RestAfter, left_of, ends}
 use Rattle.json_order.proofs.Tests.{tested, at_space, same_depth}
 use Rattle.json_order.proofs.Places.{reader, place_on, place_back, list_root}
@@ -82,7 +82,7 @@ module _ (start : ℕ) (word : List ℕ) (high : Option ℕ) (is_key : Bool) (fr
   more_letters l next c b is (d, same, (plan, e, h)) =
       (plan, e, (is, same_depth (λ (n : ℕ). Word (left_of next) (Behind n frames plan) (at + 1) rest) d deep (length frames) same h))
 
-  last_letter : (l : Letters) (c : ℕ) (b : ℕ) → b ≡ c → Lands (deep + length frames) (Some (place_in (naming l) (tree_at start (named l)) frames)) t (at + 1) rest
+  last_letter : (l : Letters) (c : ℕ) (b : ℕ) → b ≡ c → Lands (deep + length frames) (Some (put_value (naming l) (tree_at start (named l)) frames)) t (at + 1) rest
       → (plan : Plan frames) × (root_of frames plan (tree_at start (named l)) ≡ t) × Word (c ∷ []) (Behind deep frames plan) at (b ∷ rest)
   last_letter l c b is h =
       let k : (plan : Plan frames) × (root_of frames plan (tree_at start (named l)) ≡ t) × Behind deep frames plan (at + 1) rest
@@ -111,7 +111,7 @@ module _ (start : ℕ) (word : List ℕ) (high : Option ℕ) (is_key : Bool) (fr
 module _ (start : ℕ) (high : Option ℕ) (is_key : Bool) (root : Option JsonTree) (deep : ℕ) (t : JsonTree) (at : ℕ) (rest : List ℕ) where
   -- after a number the reader goes on as after any value
   done_on : (m : _) (x : JsonTree) (frames : List Frame) (plan : Plan frames) (b : ℕ) → root_of frames plan x ≡ t → Behind deep frames plan at (b ∷ rest)
-      → Lands (deep + length frames) (after_step (place_in (reader m start [] high is_key frames root) x frames) b) t (at + 1) rest
+      → Lands (deep + length frames) (after_step (put_value (reader m start [] high is_key frames root) x frames) b) t (at + 1) rest
   done_on m x [] plan b e h = after_on start [] high is_key (Some x) deep t at rest [] b (ap Some e, h)
   done_on m x (frame.List p xs ∷ frames) plan b e h =
       after_on start [] high is_key root deep t at rest (frame.List p (xs ++ (x ∷ [])) ∷ frames) b (plan.0, plan.1, list_root p frames plan.1 xs x plan.0 ∙ e, h)
@@ -119,7 +119,7 @@ module _ (start : ℕ) (high : Option ℕ) (is_key : Bool) (root : Option JsonTr
       after_on start [] high is_key root deep t at rest (frame.Object p (put ms key key_at x) [] key_at ∷ frames) b (plan.0, plan.1, e, h)
 
   done_back : (m : _) (x : JsonTree) (frames : List Frame) (b : ℕ)
-      → Lands (deep + length frames) (after_step (place_in (reader m start [] high is_key frames root) x frames) b) t (at + 1) rest
+      → Lands (deep + length frames) (after_step (put_value (reader m start [] high is_key frames root) x frames) b) t (at + 1) rest
       → (plan : Plan frames) × (root_of frames plan x ≡ t) × Behind deep frames plan at (b ∷ rest)
   done_back m x [] b h =
       let k : RestAfter deep [] (Some x) t at (b ∷ rest) = after_back start [] high is_key (Some x) deep t at rest [] b h in
@@ -153,10 +153,10 @@ module _ (start : ℕ) (high : Option ℕ) (is_key : Bool) (root : Option JsonTr
     ended_on p plan b (Some q) same final valid e h = cc
     ended_on p plan b None same final valid e h =
         let P : Option Reader → Type 0 = λ o. Lands (deep + length frames) o t (at + 1) rest in
-        let after : Lands (deep + length frames) (after_step (place_in (reader (mode.Number p) start [] high is_key frames root) whole frames) b) t (at + 1) rest
+        let after : Lands (deep + length frames) (after_step (put_value (reader (mode.Number p) start [] high is_key frames root) whole frames) b) t (at + 1) rest
         = done_on (mode.Number p) whole frames plan b e h in
         let closed : P (option_and_then (λ s. after_step s b) (closed_number (counting p)))
-        = subst (λ (v : Bool). P (option_and_then (λ s. after_step s b) (cond v (Some (place_in (reader (mode.Number p) start [] high is_key frames root) whole frames)) None))) (sym valid) after in
+        = subst (λ (v : Bool). P (option_and_then (λ s. after_step s b) (cond v (Some (put_value (reader (mode.Number p) start [] high is_key frames root) whole frames)) None))) (sym valid) after in
         subst (λ (v : Bool). P (cond v (option_and_then (λ s. after_step s b) (closed_number (counting p))) None)) (sym final) closed
 
     more_on : (p : Part) (plan : Plan frames) (b : ℕ) (tail : List ℕ) (o : Option Part) → ends o tail ≡ true
@@ -178,7 +178,7 @@ module _ (start : ℕ) (high : Option ℕ) (is_key : Bool) (root : Option JsonTr
         → RestOfNumber deep frames start word p t at (b ∷ rest)
     ended_back p b final h =
         elim (tested (λ (o : Option Reader). Lands (deep + length frames) (option_and_then (λ s. after_step s b) o) t (at + 1) rest) (is_utf8 word)
-        (Some (place_in (reader (mode.Number p) start [] high is_key frames root) whole frames)) None h) [
+        (Some (put_value (reader (mode.Number p) start [] high is_key frames root) whole frames)) None h) [
           | inl g ↦ let k : (plan : Plan frames) × (root_of frames plan whole ≡ t) × Behind deep frames plan at (b ∷ rest) = done_back (mode.Number p) whole frames b g.1 in
               ([], k.0, final, nothing_more k.0 ∙ k.1, k.2)
           | inr g ↦ absurd g.1

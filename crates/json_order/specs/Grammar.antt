@@ -211,9 +211,9 @@ pub data Form : Type 0 where
   array : List JsonTree → Form
   object : List JsonPair → Form
 
-abbrev pub name_of : Bool → List ℕ
-name_of true = codes "true"
-name_of false = codes "false"
+abbrev pub boolean_name : Bool → List ℕ
+boolean_name true = codes "true"
+boolean_name false = codes "false"
 
 -- the value that is written so
 abbrev pub node_of : Form → JsonNode
@@ -231,7 +231,7 @@ Written Formed tree behind at text = (form : Form) × (tree ≡ record { at = at
 -- section 3: value = false / null / true / object / array / number / string, with at most so many brackets open in it
 abbrev pub Formed : Form → ℕ → Said → ℕ → List ℕ → Type 0
 Formed null deep behind at text = Word (codes "null") behind at text
-Formed (boolean b) deep behind at text = Word (name_of b) behind at text
+Formed (boolean b) deep behind at text = Word (boolean_name b) behind at text
 Formed (number word) deep behind at text = IsNumber word × Word word behind at text
 Formed (string pieces) deep behind at text = Quoted pieces behind at text
 Formed (array items) zero behind at text = ⊥

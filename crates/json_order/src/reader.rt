@@ -29,7 +29,7 @@ pub(crate) struct Reader {
 }
 
 impl Reader {
-    ghost use Rattle.json_order.specs.inner.Steps.{Goes, fresh, step, finished, tree_at, placed, closed_list, closed_object, spaced, other_at, value_step, key_step, first_item_step, first_key_step, colon_step, after_step, comma_in, name_step, number_step, number_at, name_at, closed_number, opened, Finishes, in_mode, string_at, root_at};
+    ghost use Rattle.json_order.specs.inner.Steps.{Goes, fresh, step, finished, tree_at, with_value, closed_list, closed_object, spaced, other_at, value_step, key_step, first_item_step, first_key_step, colon_step, after_step, comma_in, name_step, number_step, number_at, name_at, closed_number, opened, Finishes, in_mode, string_at, root_at};
 
     pub(crate) fn new(alloc: Global, seed: Seed) -> Reader
         ensures { result ≡ fresh }
@@ -303,7 +303,7 @@ impl Reader {
 
     /// Puts a whole value into the innermost bracket.
     pub(crate) fn place(&mut self, alloc: Global, value: JsonTree) -> Result<(), Stop>
-        ensures { Goes result self.new (Some (placed self.old value)) }
+        ensures { Goes result self.new (Some (with_value self.old value)) }
     {
         self.mode = Mode::After;
         match self.stack.pop() {

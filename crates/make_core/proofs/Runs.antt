@@ -4,7 +4,7 @@ use Rattle.std.proofs.lemmas.Bool.{cases_eq, false≢true, eq-eqb, ne_eqb}
 use Rattle.std.proofs.lemmas.List.{nil_from_length}
 use Rattle.std.proofs.lemmas.List.Sums.{sum_by-cons}
 use Rattle.std.proofs.lemmas.Option.{none-some, same_Some}
-use Rattle.make_core.specs.Core.{Answers, AreAccepted, Core, IsAllowed, IsFirstRefused, IsSound, after_event, after_events, claims, publishes}
+use Rattle.make_core.specs.Core.{AnswersEvent, AreAccepted, Core, IsAllowed, IsFirstRefused, IsSound, after_event, after_events, claims, publishes}
 use Rattle.make_core.specs.declared.event.Event.{Event}
 use Rattle.make_core.specs.declared.event.Event.TheVariants.{Claim, Publish}
 use Rattle.make_core.specs.declared.plan.CorePlan.{CorePlan}
@@ -54,12 +54,12 @@ one_first plan state (event ∷ events) (suc one) (suc other) first second =
 
 -- ---- what a loop over the events keeps
 
-allowed_by : {A E : Type 0} (plan : CorePlan) (event : Event) (old new : Core) (result : Result A E) → Answers plan event old new result → is_err result ≡ false
+allowed_by : {A E : Type 0} (plan : CorePlan) (event : Event) (old new : Core) (result : Result A E) → AnswersEvent plan event old new result → is_err result ≡ false
     → IsAllowed plan old event × (new ≡ after_event old event)
 allowed_by plan event old new (Ok value) answer is = answer
 allowed_by plan event old new (Err error) answer is = absurd (false≢true (sym is))
 
-pub refused_by : {A E : Type 0} (plan : CorePlan) (event : Event) (old new : Core) (result : Result A E) → Answers plan event old new result → is_err result ≡ true
+pub refused_by : {A E : Type 0} (plan : CorePlan) (event : Event) (old new : Core) (result : Result A E) → AnswersEvent plan event old new result → is_err result ≡ true
     → IsAllowed plan old event → ⊥
 refused_by plan event old new (Ok value) answer is = absurd (false≢true is)
 refused_by plan event old new (Err error) answer is = answer.0
@@ -71,7 +71,7 @@ pub record IsMidway (plan : CorePlan) (from : Core) (events front rest : List Ev
   pub state_is : state ≡ after_events from front
 
 pub midway_more : {A E : Type 0} (plan : CorePlan) (from : Core) (events front : List Event) (event : Event) (rest : List Event) (old new : Core) (result : Result A E)
-    → IsMidway plan from events front (event ∷ rest) old → Answers plan event old new result → is_err result ≡ false
+    → IsMidway plan from events front (event ∷ rest) old → AnswersEvent plan event old new result → is_err result ≡ false
     → IsMidway plan from events (front ++ event ∷ []) rest new
 midway_more plan from events front event rest old new result midway answer is =
     let allowed = allowed_by plan event old new result answer is in

@@ -9,7 +9,7 @@ use Rattle.std.proofs.lemmas.Option.{none-some}
 use Rattle.graph_types.specs.declared.record.ModRecord.{ModRecord}
 use Rattle.graph_types.specs.Reached.{HoldsAll, IsClosed, IsReached}
 use Rattle.graph_types.specs.Targets.{targets_of}
-use Rattle.make_core.specs.Core.{Answers, Core, HasExactly, IsAllowed, IsDone, IsOwned, IsQuiet, IsReachable, IsSound, MayClaim, MayPublish, after_event, done_of, entries_of, owner_of, planned_record, start, planned_targets}
+use Rattle.make_core.specs.Core.{AnswersEvent, Core, HasExactly, IsAllowed, IsDone, IsOwned, IsQuiet, IsReachable, IsSound, MayClaim, MayPublish, after_event, done_of, entries_of, owner_of, planned_record, start, planned_targets}
 use Rattle.make_core.specs.declared.event.Event.{Event}
 use Rattle.make_core.specs.declared.event.Event.TheVariants.{Claim, Publish}
 use Rattle.make_core.specs.declared.plan.CorePlan.{CorePlan}
@@ -76,7 +76,7 @@ pub sound_after : (plan : CorePlan) (state : Core) (event : Event) → IsAllowed
 sound_after plan state (Claim worker file) may sound = claim_keeps plan state worker file.0 may sound
 sound_after plan state (Publish worker file rec) may sound = publish_keeps plan state worker file.0 rec may sound
 
-pub answer_keeps : {A E : Type 0} (plan : CorePlan) (event : Event) (old new : Core) (result : Result A E) → Answers plan event old new result
+pub answer_keeps : {A E : Type 0} (plan : CorePlan) (event : Event) (old new : Core) (result : Result A E) → AnswersEvent plan event old new result
     → IsSound plan old → IsSound plan new
 answer_keeps plan event old new (Ok value) answer sound = subst (IsSound plan) (sym answer.1) (sound_after plan old event answer.0 sound)
 answer_keeps plan event old new (Err error) answer sound = subst (IsSound plan) (sym answer.1) sound

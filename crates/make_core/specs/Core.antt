@@ -91,8 +91,8 @@ after_event state (Claim worker file) = record state { owner = slice_set state.o
 after_event state (Publish worker file rec) = record state { done = slice_set state.done file.0 (Some rec) }
 
 -- a step carries the event out where it is allowed, and else refuses it and changes nothing
-abbrev pub Answers : {A E : Type 0} → CorePlan → Event → Core → Core → Result A E → Type 0
-Answers plan event old new result =
+abbrev pub AnswersEvent : {A E : Type 0} → CorePlan → Event → Core → Core → Result A E → Type 0
+AnswersEvent plan event old new result =
     MatchResult result (λ _. IsAllowed plan old event × (new ≡ after_event old event)) (λ _. (¬ IsAllowed plan old event) × (new ≡ old))
 
 -- ---- lists of events

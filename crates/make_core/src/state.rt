@@ -1,5 +1,5 @@
 ghost use Rattle.std.specs.Prelude.{◌≡◌, ◌↔◌, ◌⊎◌, Some, IsTrue, IfOk, option_copied};
-ghost use Rattle.make_core.specs.Core.{Answers, IsDone, IsOpenTarget, IsQuiet, IsSound, MayClaim, MayPublish, done_of, owner_of, start};
+ghost use Rattle.make_core.specs.Core.{AnswersEvent, IsDone, IsOpenTarget, IsQuiet, IsSound, MayClaim, MayPublish, done_of, owner_of, start};
 
 use crate::lookup::{is_unset, nothing, value_at};
 use crate::quiet::{are_entries_owned, are_finished, are_targets_owned};
@@ -58,7 +58,7 @@ impl CoreState {
 
     /// Does what the event says where the plan allows it, and else nothing. Takes no memory.
     pub fn step(&mut self, plan: &CorePlan, event: Event) -> Result<(), NotAllowed>
-        ensures answer { Answers plan.now event self.old self.new result }
+        ensures answer { AnswersEvent plan.now event self.old self.new result }
         ensures sound { IsSound plan.now self.old → IsSound plan.now self.new }
     {
         match event {
@@ -79,7 +79,7 @@ impl CoreState {
     }
 
     fn claim(&mut self, plan: &CorePlan, worker: u32, file: FileId) -> Result<(), NotAllowed>
-        ensures { Answers plan.now (Event.Claim worker file) self.old self.new result }
+        ensures { AnswersEvent plan.now (Event.Claim worker file) self.old self.new result }
     {
         if !self.may_claim(plan, worker, file) {
             return Err(NotAllowed);
@@ -95,7 +95,7 @@ impl CoreState {
         file: FileId,
         rec: ModRecord,
     ) -> Result<(), NotAllowed>
-        ensures { Answers plan.now (Event.Publish worker file rec) self.old self.new result }
+        ensures { AnswersEvent plan.now (Event.Publish worker file rec) self.old self.new result }
     {
         if !self.may_publish(plan, worker, file, &rec) {
             return Err(NotAllowed);

@@ -55,9 +55,9 @@ abbrev pub fault_of : List ℕ → List ℕ → Item → Option Fault
 fault_of path text item = fault_where (record { place = place_in path text item.at; kind = Unresolved; detail = item.request }) item.target
 
 -- a module with an import declaration is an ES module
-abbrev pub kind_of : List Item → ModKind
-kind_of [] = Plain
-kind_of (item ∷ items) = Es
+abbrev pub module_kind : List Item → ModKind
+module_kind [] = Plain
+module_kind (item ∷ items) = Es
 
 -- a record of which nothing but the file is known
 abbrev pub bare_record : FileId → List ℕ → ℕ → ModKind → ModRecord
@@ -81,7 +81,7 @@ fault_at place kind = record { place = place; kind = kind; detail = [] }
 
 -- the record of a text that is read to its end
 abbrev pub whole_record : FileId → List ℕ → List ℕ → List Item → ModRecord
-whole_record file path text items = record (bare_record file path (length text) (kind_of items)) {
+whole_record file path text items = record (bare_record file path (length text) (module_kind items)) {
   text = text;
   items = items;
   edits = map edit_of items;

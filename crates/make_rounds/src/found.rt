@@ -1,7 +1,7 @@
 //! The files that a build has found.
 ghost use Rattle.std.specs.Prelude.{◌≡◌, ◌<◌, ◌≤◌, [], length, map, nat_eq, slice_index, IfOk, OnOk};
 ghost use Rattle.std.specs.List.{AllByRecursion, IsDistinct};
-ghost use Rattle.make_rounds.specs.inner.Found.{with_file};
+ghost use Rattle.make_rounds.specs.inner.Found.{with_finding};
 
 use bit_rows::BitRow;
 use fault_place::{FileId, NoMemory};
@@ -40,7 +40,7 @@ impl Found {
     /// Adds a file, where it wasn't found before.
     pub(crate) fn add(&mut self, file: FileId) -> Result<(), NoMemory>
         requires { file.0 < self.old.of }
-        ensures { OnOk result (self.new ≡ with_file self.old file.0) }
+        ensures { OnOk result (self.new ≡ with_finding self.old file.0) }
     {
         if self.seen.get(file.0) {
             return Ok(());

@@ -9,7 +9,7 @@ use crate::statement::{length_of, request_of};
 use fault_place::{FileId, MAX_TEXT, NoMemory, Seq, Span, Text};
 use graph_types::{Item, ItemKind};
 use path_text::laws::parent_is_folder;
-use path_text::{PathEnd, is_normal, join, parent};
+use path_text::{PathEnd, join, parent};
 use std::alloc::{AllocError, Global};
 use tree_listing::Listing;
 
@@ -20,19 +20,17 @@ pub(crate) enum Reading {
     StopsAt(u32),
 }
 
-/// The file that a request of the module at a path names. No request of a path that isn't normal names one.
+/// The file that a request of the module at a path names.
 fn target(
     alloc: Global,
     listing: &Listing,
     path: &str,
     request: &str,
 ) -> Result<Option<FileId>, NoMemory>
+    requires { IsNormal path.now }
     ensures within { IfOk result (λ found. IfSome found (λ file. file.0 < length listing.now.files)) }
-    ensures value { IsNormal path.now → IfOk result (λ found. found ≡ target_of listing.now.files path.now request.now) }
+    ensures value { IfOk result (λ found. found ≡ target_of listing.now.files path.now request.now) }
 {
-    if !is_normal(path) {
-        return Ok(None);
-    }
     parent_is_folder();
     match join(alloc, parent(path), request) {
         Ok(joined) => Ok(listing.find(joined.as_str())),
@@ -50,7 +48,8 @@ fn item(
     at: usize,
     request: &str,
 ) -> Result<Item, NoMemory>
-    requires { at + 9 + length request.now ≤ MAX_TEXT }
+    requires normal { IsNormal path.now }
+    requires within { at + 9 + length request.now ≤ MAX_TEXT }
     ensures is { IfOk result (IsItemOf listing.now.files path.now) }
     ensures start { IfOk result (λ item. item.span.start ≡ at) }
     ensures request { IfOk result (λ item. item.request ≡ request.now) }
@@ -75,7 +74,8 @@ pub(crate) fn imports(
     path: &str,
     text: &[u8],
 ) -> Result<Reading, NoMemory>
-    requires { length text.now ≤ MAX_TEXT }
+    requires normal { IsNormal path.now }
+    requires short { length text.now ≤ MAX_TEXT }
     ensures { IfOk result (Reads listing.now.files path.now text.now) }
 {
     let mut items = Vec::new(alloc);

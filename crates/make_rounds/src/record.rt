@@ -2,7 +2,7 @@
 ghost use Rattle.std.specs.Prelude.{◌≡◌, ◌<◌, ◌≤◌, ◌∷◌, [], length, map, filter_map, IfOk};
 ghost use Rattle.path_text.specs.Path.{IsNormal};
 ghost use Rattle.tree_listing.specs.Listing.{length_at};
-ghost use Rattle.make_rounds.specs.Record.{bare_record, edit_of, fault_at, fault_of, kind_of, whole_record, stopped_record, long_record, record_from};
+ghost use Rattle.make_rounds.specs.Record.{bare_record, edit_of, fault_at, fault_of, module_kind, whole_record, stopped_record, long_record, record_from};
 ghost use Rattle.make_rounds.specs.Shape.{HasPlaces, IsReadable, IsSimple};
 
 use crate::import::{Reading, imports};
@@ -63,7 +63,7 @@ fn faults(alloc: Global, path: &str, text: &[u8], items: &[Item]) -> Result<Seq<
 
 /// A module with an import is an ES module.
 fn kind_of(items: &[Item]) -> ModKind
-    ensures { result ≡ kind_of items.now }
+    ensures { result ≡ module_kind items.now }
 {
     match items {
         [] => ModKind::Plain,
@@ -167,9 +167,10 @@ pub(crate) fn record(
     got: ReadGot,
 ) -> Result<ModRecord, NoMemory>
     requires there { file.0 < length listing.now.files }
+    requires normal { IsNormal path.now }
     requires readable { IsReadable got }
     ensures shape { IfOk result (IsSimple (length listing.now.files) file) }
-    ensures value { IsNormal path.now → IfOk result (λ rec. rec ≡ record_from listing.now.files file path.now (length_at listing.now.files file.0) got) }
+    ensures value { IfOk result (λ rec. rec ≡ record_from listing.now.files file path.now (length_at listing.now.files file.0) got) }
 {
     match got {
         ReadGot::Whole(text) => match imports(alloc, listing, path, text.get())? {

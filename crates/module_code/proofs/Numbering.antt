@@ -8,7 +8,7 @@ use Rattle.std.specs.List.{cons_option, enumerate_from, range_with_len}
 use Rattle.std.specs.Prelude.{count_by, filter_map, slice_index, Some, None}
 use Rattle.graph_types.specs.declared.item.Item.{Item}
 use Rattle.graph_types.specs.Whole.{declares}
-use Rattle.module_code.specs.Numbers.{load_numbers, loads_before, number_of}
+use Rattle.module_code.specs.Numbers.{load_numbers, loads_before, load_number_of}
 
 pub length-load_numbers : (items : List Item) → length (load_numbers items) ≡ length items
 length-load_numbers items = length-map-range_with_len (loads_before items) 0 (length items)
@@ -35,18 +35,18 @@ count_by-cons item rest n is =
     let swap : (0 + weight item) + count_by is_declaration rest ≡ count_by is_declaration rest + weight item = omega arith in
     split ∙ swap ∙ ap (λ k. count_by is_declaration rest + k) is
 
-number_of-declaration : (numbers : List ℕ) (place count : ℕ) (item : Item) → is_declaration item ≡ true → slice_index numbers place ≡ count → number_of numbers (place, item) ≡ Some count
+number_of-declaration : (numbers : List ℕ) (place count : ℕ) (item : Item) → is_declaration item ≡ true → slice_index numbers place ≡ count → load_number_of numbers (place, item) ≡ Some count
 number_of-declaration numbers place count item declared is = cond-true _ _ _ declared ∙ ap Some is
 
-number_of-other : (numbers : List ℕ) (place : ℕ) (item : Item) → is_declaration item ≡ false → number_of numbers (place, item) ≡ None
+number_of-other : (numbers : List ℕ) (place : ℕ) (item : Item) → is_declaration item ≡ false → load_number_of numbers (place, item) ≡ None
 number_of-other numbers place item other = cond-false _ _ _ other
 
 -- the declarations behind some items have the next numbers
 pub filter_map-number_of : (items done rest : List Item) → items ≡ done ++ rest
-    → filter_map (number_of (load_numbers items)) (enumerate_from (length done) rest) ≡ range_with_len (count_by is_declaration done) (count_by is_declaration rest)
+    → filter_map (load_number_of (load_numbers items)) (enumerate_from (length done) rest) ≡ range_with_len (count_by is_declaration done) (count_by is_declaration rest)
 filter_map-number_of items done [] is = refl
 filter_map-number_of items done (item ∷ rest) is =
-    let number_of_any = number_of (load_numbers items) in
+    let number_of_any = load_number_of (load_numbers items) in
     let place = length done in
     let count = count_by is_declaration done in
     let within : place < length items = omega (arith, ap length is, length-append done (item ∷ rest)) in

@@ -18,8 +18,8 @@ abbrev pub load_numbers : List Item → List ℕ
 load_numbers items = map (loads_before items) (range_with_len 0 (length items))
 
 -- the number of an import or an export with a module's name
-abbrev pub number_of : List ℕ → ℕ × Item → Option ℕ
-number_of numbers numbered = if declares numbered.1.kind then Some (slice_index numbers numbered.0) else None
+abbrev pub load_number_of : List ℕ → ℕ × Item → Option ℕ
+load_number_of numbers numbered = if declares numbered.1.kind then Some (slice_index numbers numbered.0) else None
 
 -- an `export *` has the item with this number
 abbrev pub is_starred : List Star → ℕ → Bool

@@ -5,7 +5,7 @@ ghost use Rattle.graph_types.specs.Whole.{LieInOrder, declares};
 ghost use Rattle.graph_types.specs.declared.edit.Edit.{Edit};
 ghost use Rattle.graph_types.specs.declared.item.Item.{Item};
 ghost use Rattle.module_code.specs.Body.{with_edits};
-ghost use Rattle.module_code.specs.Numbers.{load_numbers, number_of};
+ghost use Rattle.module_code.specs.Numbers.{load_numbers, load_number_of};
 
 /// Edits that put back what was written leave the text as it is: what no edit covers is kept.
 pub fn unedited_text_stays()
@@ -16,6 +16,6 @@ pub fn unedited_text_stays()
 /// The numbers of the declarations are 0, 1, 2 and so on.
 pub fn declarations_are_counted()
     ensures { (items : List Item)
-        → filter_map (number_of (load_numbers items)) (enumerate_from 0 items)
+        → filter_map (load_number_of (load_numbers items)) (enumerate_from 0 items)
         ≡ range_with_len 0 (count_by (λ item. declares item.kind) items) }
 {}

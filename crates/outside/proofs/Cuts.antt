@@ -10,7 +10,7 @@ use Rattle.std.proofs.lemmas.Cmp.{tied_itself, nat_list_cmp_total}
 use Rattle.std.specs.List.{AllByRecursion}
 use Rattle.std.specs.List.Sorted.{IsPartitionedBy, IsPartitionPoint}
 use Rattle.std.specs.FinMap.Entries.{find, put, by_order, is_sorted, below_all}
-use Rattle.outside.specs.Cut.{IsCut, is_before, has_prefix}
+use Rattle.outside.specs.inner.Cut.{IsCut, is_before, has_prefix}
 use Rattle.outside.proofs.Orders.{order, less, turned, before_trans, equal_paths, prefix_not_before, between}
 
 -- a member that passes has only members that pass before it

@@ -11,10 +11,10 @@ use Rattle.std.specs.FinMap.Entries.{find, is_sorted}
 use Rattle.std.specs.Ordering.{is_lt}
 use Rattle.path_text.specs.Child.{IsSegment, child_of}
 use Rattle.path_text.specs.Path.{is_slash, is_normal}
-use Rattle.outside.specs.Cut.{has_prefix}
+use Rattle.outside.specs.inner.Cut.{has_prefix}
 use Rattle.outside.specs.Reads.{IsEntry, AreEntries, kind_at, kind_of}
 use Rattle.outside.specs.Tree.{Tree, IsTree, is_folder, has_file_within, within}
-use Rattle.outside.specs.Walk.{child_in, with_entry, is_named, is_last_name, is_folder_kind, kind_of_rest}
+use Rattle.outside.specs.inner.Walk.{child_in, with_entry, is_named, is_last_name, is_folder_kind, kind_of_rest}
 use Rattle.outside.specs.declared.entry.DirEntry.{DirEntry}
 use Rattle.outside.specs.declared.entry.EntryKind.{EntryKind}
 use Rattle.outside.specs.declared.entry.EntryKind.TheVariants.{File, Folder}

@@ -10,7 +10,7 @@ use Rattle.std.specs.List.{list_any, list_all, position_or_len, before_first, af
 use Rattle.path_text.specs.Child.{IsSegment, child_of}
 use Rattle.path_text.specs.Path.{segments, is_name, is_slash, is_forbidden, is_normal}
 use Rattle.outside.specs.Tree.{within}
-use Rattle.outside.specs.Walk.{kind_of_rest, entry_of_rest, child_in}
+use Rattle.outside.specs.inner.Walk.{kind_of_rest, entry_of_rest, child_in}
 use Rattle.outside.specs.declared.entry.DirEntry.{DirEntry}
 use Rattle.outside.specs.declared.entry.EntryKind.TheVariants.{File, Folder}
 use Rattle.outside.proofs.Within.{slash_after, rest_some, starts_to}

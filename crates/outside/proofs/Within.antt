@@ -11,9 +11,9 @@ use Rattle.std.specs.FinMap.Entries.{find, is_some-find}
 use Rattle.path_text.specs.Path.{is_normal}
 use Rattle.std.proofs.lemmas.List.Prefix.{front_rest}
 use Rattle.outside.specs.Tree.{Tree, files_of, within, has_file_within, is_folder}
-use Rattle.outside.specs.Walk.{rest_within}
+use Rattle.outside.specs.inner.Walk.{rest_within}
 use Rattle.outside.specs.Additions.{has_file_above}
-use Rattle.outside.specs.Cut.{has_prefix}
+use Rattle.outside.specs.inner.Cut.{has_prefix}
 use Rattle.outside.proofs.Orders.{order, equal_order, equal_paths}
 
 pub starts_from : (path prefix rest : List ℕ) → path ≡ prefix ++ rest → starts_with nat_eq path prefix ≡ true

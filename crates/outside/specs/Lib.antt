@@ -1,7 +1,7 @@
 pub mod Additions
 pub mod Cause
-pub mod Cut
 pub mod Failures
+pub mod inner
 pub mod Logs
 pub mod MemReaders
 pub mod Readings
@@ -9,4 +9,3 @@ pub mod Reads
 pub mod Sinks
 pub mod Tree
 pub mod Views
-pub mod Walk

@@ -3,7 +3,7 @@ ghost use Rattle.std.specs.Prelude.{◌≡◌, None, filter, is_ok, option_copie
 ghost use Rattle.std.specs.Ordering.{nat_cmp};
 ghost use Rattle.std.specs.Cmp.Lexicographic.{slice_cmp};
 ghost use Rattle.std.specs.FinMap.Entries.{find, is_sorted, put};
-ghost use Rattle.outside.specs.Cut.{IsCut, is_before, has_prefix};
+ghost use Rattle.outside.specs.inner.Cut.{IsCut, is_before, has_prefix};
 
 use fault_place::{Bytes, NoMemory, Text};
 

@@ -5,10 +5,10 @@ ghost use Rattle.std.specs.Ordering.{nat_cmp};
 ghost use Rattle.std.specs.Cmp.Lexicographic.{slice_cmp};
 ghost use Rattle.std.specs.FinMap.Entries.{is_sorted};
 ghost use Rattle.path_text.specs.Path.{is_slash};
-ghost use Rattle.outside.specs.Cut.{has_prefix};
+ghost use Rattle.outside.specs.inner.Cut.{has_prefix};
 ghost use Rattle.outside.specs.Reads.{AreEntries};
 ghost use Rattle.outside.specs.Tree.{IsTree, is_folder, within};
-ghost use Rattle.outside.specs.Walk.{child_in, is_last_name, kind_of_rest, rest_within, with_entry};
+ghost use Rattle.outside.specs.inner.Walk.{child_in, is_last_name, kind_of_rest, rest_within, with_entry};
 
 use crate::files::files_with_prefix;
 use crate::{DirEntry, EntryKind};

@@ -14,7 +14,7 @@ use Rattle.pack_run.specs.inner.Decision.{DecidesUsage}
 use Rattle.pack_run.specs.Reads.{ReadsBuild}
 use Rattle.pack_run.specs.Report.{Adds, AddsFront, AddsProperFront, MayEnd, Reports}
 use Rattle.pack_run.specs.Run.{Ends, IsByWords, OnVerdict}
-use Rattle.pack_run.specs.Verdict.{IsMissing, IsJobVerdict, IsTextVerdict, IsVerdict, end_of}
+use Rattle.pack_run.specs.Verdict.{IsMissing, IsJobVerdict, IsTextVerdict, IsVerdict, end_by}
 use Rattle.pack_run.specs.Words.{config_path}
 use Rattle.pack_run.specs.declared.end.End.{End}
 use Rattle.pack_run.specs.declared.end.End.TheVariants.{Built, Faults, Usage, Config, Limit, ReadFault, WriteFault, LineFault, NoMemory}
@@ -68,7 +68,7 @@ module _ (words : List (List ℕ)) (tree : Tree) (reads : List (List ℕ × Why)
   missing_ends NoMemory missing left = inr refl
 
 -- the end of a reported verdict
-usage_verdict : (verdict : Verdict) → Usage ≡ end_of verdict → verdict ≡ verdicts.Usage
+usage_verdict : (verdict : Verdict) → Usage ≡ end_by verdict → verdict ≡ verdicts.Usage
 usage_verdict verdicts.Usage is = refl
 usage_verdict (verdicts.Config place kind) is = cc
 usage_verdict (verdicts.Limit limit) is = cc
@@ -97,7 +97,7 @@ usage_ends Config may = cc
 usage_ends (Limit limit) may = cc
 usage_ends ReadFault may = cc
 
-pub never_read_fault : (verdict : Verdict) → ReadFault ≡ end_of verdict → ⊥
+pub never_read_fault : (verdict : Verdict) → ReadFault ≡ end_by verdict → ⊥
 never_read_fault verdicts.Usage is = cc
 never_read_fault (verdicts.Config place kind) is = cc
 never_read_fault (verdicts.Limit limit) is = cc
@@ -129,7 +129,7 @@ by_words words result verdict end usage is may = record {
 }
 
 -- where nothing is put for a verdict, nothing is put at the end of its report
-pub nothing_by : (verdict : Verdict) (end : End) (fact : Type 0) → MayEnd verdict end → OnNothingPut (end_of verdict) fact → OnNothingPut end fact
+pub nothing_by : (verdict : Verdict) (end : End) (fact : Type 0) → MayEnd verdict end → OnNothingPut (end_by verdict) fact → OnNothingPut end fact
 nothing_by verdict Built fact may nothing = tt
 nothing_by verdict WriteFault fact may nothing = tt
 nothing_by verdict LineFault fact may nothing = tt

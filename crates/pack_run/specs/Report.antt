@@ -3,7 +3,7 @@ use Rattle.std.specs.Prelude.{◌≡◌, ◌≢◌, ℕ, ◌<◌, ◌^◌, List,
 use Rattle.outside.specs.Sinks.{HasAdded}
 use Rattle.outside.specs.Views.{SinkView}
 use Rattle.outside.specs.declared.asset_sink.Asset.{Asset}
-use Rattle.pack_run.specs.Verdict.{lines_of, assets_of, end_of}
+use Rattle.pack_run.specs.Verdict.{lines_of, assets_of, end_by}
 use Rattle.pack_run.specs.declared.end.End.{End}
 use Rattle.pack_run.specs.declared.end.End.TheVariants.{ReadFault, WriteFault, LineFault, NoMemory}
 use Rattle.pack_run.specs.declared.verdict.Verdict.{Verdict}
@@ -27,7 +27,7 @@ AddsProperFront before now members = (count : ℕ) × (count < length members) �
 
 -- the end tells the verdict, whose lines and assets were added
 pub record Tells (verdict : Verdict) (sink sink' : SinkView Asset) (lines lines' : SinkView (List ℕ)) (end : End) : Type 0 where
-  pub answer : end ≡ end_of verdict
+  pub answer : end ≡ end_by verdict
   pub printed : Adds lines lines' (lines_of verdict)
   pub put : Adds sink sink' (assets_of verdict)
 
@@ -44,7 +44,7 @@ abbrev pub MayEnd : Verdict → End → Type 0
 MayEnd verdict WriteFault = assets_of verdict ≢ []
 MayEnd verdict LineFault = ⊤
 MayEnd verdict NoMemory = ⊤
-MayEnd verdict end = end ≡ end_of verdict
+MayEnd verdict end = end ≡ end_by verdict
 
 -- what can be reported: no more faults than an end counts
 abbrev pub CanReport : Verdict → Type 0

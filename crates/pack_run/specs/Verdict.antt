@@ -111,14 +111,14 @@ abbrev pub IsMissing : List (List ℕ) → Tree → Type 0
 IsMissing words tree = (config : List ℕ) × (config_path words ≡ Some config) × (bytes_at tree config ≡ None)
 
 -- what a fault of the configuration is called
-abbrev pub kind_name : ConfigKind → List ℕ
-kind_name ConfigTooLong = codes "TooLong"
-kind_name ConfigNotYet = codes "NotYet"
+abbrev pub config_kind_name : ConfigKind → List ℕ
+config_kind_name ConfigTooLong = codes "TooLong"
+config_kind_name ConfigNotYet = codes "NotYet"
 
 -- PATH:LINE:COLUMN: config KIND
 abbrev pub config_line : Place → ConfigKind → List ℕ
 config_line place kind =
-    place.path ++ codes ":" ++ decimal place.line ++ codes ":" ++ decimal place.column ++ codes ": config " ++ kind_name kind
+    place.path ++ codes ":" ++ decimal place.line ++ codes ":" ++ decimal place.column ++ codes ": config " ++ config_kind_name kind
 
 -- limit: NAME above NUMBER
 abbrev pub limit_line : Limit → List ℕ
@@ -155,9 +155,9 @@ assets_of (Faults faults) = []
 assets_of (Built build) = build.assets
 
 -- the end that tells a verdict
-abbrev pub end_of : Verdict → End
-end_of Usage = ends.Usage
-end_of (Config place kind) = ends.Config
-end_of (Over limit) = ends.Limit limit
-end_of (Faults faults) = ends.Faults (length faults)
-end_of (Built build) = ends.Built
+abbrev pub end_by : Verdict → End
+end_by Usage = ends.Usage
+end_by (Config place kind) = ends.Config
+end_by (Over limit) = ends.Limit limit
+end_by (Faults faults) = ends.Faults (length faults)
+end_by (Built build) = ends.Built

@@ -1,6 +1,6 @@
 //! The files of the entry.
 ghost use Rattle.std.specs.Prelude.{◌≡◌, ◌<◌, ◌∷◌, [], length, option_map, option_to_list, IfOk, IfSome};
-ghost use Rattle.pack_run.specs.inner.Entry.{IsEntry};
+ghost use Rattle.pack_run.specs.inner.Entry.{IsFoundEntry};
 ghost use Rattle.pack_run.specs.Verdict.{entry_faults, entry_file};
 
 use crate::config::Configuration;
@@ -65,7 +65,7 @@ pub fn find_entry(
     listing: &Listing,
     config: &Configuration<'_>,
 ) -> Result<Entry, NoMemory>
-    ensures { IfOk result (IsEntry listing.now.files config.now) }
+    ensures { IfOk result (IsFoundEntry listing.now.files config.now) }
 {
     let found = entry_file(alloc, listing, config.request())?;
     Ok(Entry {

@@ -2,7 +2,7 @@ ghost use Rattle.std.specs.Prelude.{◌≡◌, ◌≢◌, [], OnOk, OnErr};
 ghost use Rattle.outside.specs.Cause.{Rose, HasCause};
 ghost use Rattle.pack_run.specs.End.{OnNothingPut};
 ghost use Rattle.pack_run.specs.Report.{Adds, AddsProperFront, CanReport, Leaves, MayEnd, Reports};
-ghost use Rattle.pack_run.specs.Verdict.{end_of, assets_of};
+ghost use Rattle.pack_run.specs.Verdict.{end_by, assets_of};
 
 use crate::output::{print_all, put_all};
 use crate::verdict_lines::verdict_lines;
@@ -12,7 +12,7 @@ use std::alloc::Global;
 
 fn end_of(verdict: &Verdict) -> End
     requires { CanReport verdict.now }
-    ensures { result ≡ end_of verdict.now }
+    ensures { result ≡ end_by verdict.now }
 {
     match verdict {
         Verdict::Usage => End::Usage,
@@ -33,7 +33,7 @@ fn put_assets<S: AssetSink>(
     ensures cause { HasCause (S.view sink.old).faults (S.view sink.new).faults result }
     ensures front { OnErr result (AddsProperFront (S.view sink.old) (S.view sink.new) (assets_of verdict.now)) }
     ensures some { OnErr result (assets_of verdict.now ≢ []) }
-    ensures nothing { OnNothingPut (end_of verdict.now) (Leaves (S.view sink.old) (S.view sink.new)) }
+    ensures nothing { OnNothingPut (end_by verdict.now) (Leaves (S.view sink.old) (S.view sink.new)) }
 {
     match verdict {
         Verdict::Built(build) => put_all(alloc, sink, build.assets.as_slice()),
@@ -53,7 +53,7 @@ pub fn report<S: AssetSink, L: LineSink>(
     ensures end { MayEnd verdict.now result }
     ensures write_cause { result ≡ End.WriteFault → Rose (S.view sink.old).faults (S.view sink.new).faults }
     ensures line_cause { result ≡ End.LineFault → Rose (L.view lines.old).faults (L.view lines.new).faults }
-    ensures nothing { OnNothingPut (end_of verdict.now) (Leaves (S.view sink.old) (S.view sink.new)) }
+    ensures nothing { OnNothingPut (end_by verdict.now) (Leaves (S.view sink.old) (S.view sink.new)) }
 {
     match put_assets(alloc, verdict, sink) {
         Ok(()) => {}

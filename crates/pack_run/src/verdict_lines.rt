@@ -1,7 +1,7 @@
 ghost use Rattle.std.specs.Prelude.{◌≡◌, ◌++◌, [], ◌∷◌, OnOk, IfOk, map, length, codes, decimal};
 ghost use Rattle.fault_place.specs.Fault.{line_of};
 ghost use Rattle.fault_place.specs.Limit.{name_of, number_of};
-ghost use Rattle.pack_run.specs.Verdict.{kind_name, lines_of, config_line, limit_line, count_line, built_line};
+ghost use Rattle.pack_run.specs.Verdict.{config_kind_name, lines_of, config_line, limit_line, count_line, built_line};
 
 use crate::{Build, ConfigKind, Verdict};
 use fault_place::{Bytes, Fault, Limit, NoMemory, Place, fault_line};
@@ -9,7 +9,7 @@ use pack_util::{add, add_around, add_number};
 use std::alloc::Global;
 
 fn kind_name(kind: ConfigKind) -> &'static [u8]
-    ensures { result.now ≡ kind_name kind }
+    ensures { result.now ≡ config_kind_name kind }
 {
     match kind {
         ConfigKind::TooLong => b"TooLong",

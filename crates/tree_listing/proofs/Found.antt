@@ -11,7 +11,7 @@ use Rattle.path_text.specs.Path.{IsFolderPath, parent_of}
 use Rattle.path_text.proofs.Children.{child_of-normal, parent_of-child}
 use Rattle.outside.specs.declared.entry.DirEntry.{DirEntry}
 use Rattle.outside.specs.declared.entry.EntryKind.TheVariants.{Folder}
-use Rattle.tree_listing.specs.inner.Kept.{root, as_folder, entry_in, kept_where, kept_in, AreFound, AreShort, HasKept, IsFoundIn, Keeps}
+use Rattle.tree_listing.specs.inner.Kept.{root, as_folder, entry_in, kept_where, kept_in, AreFound, AreShort, HasKept, IsFoundIn, KeepsEntries}
 use Rattle.tree_listing.specs.declared.kept.Kept.{Kept}
 use Rattle.tree_listing.specs.declared.list_end.ListEnd.{ListEnd}
 
@@ -60,7 +60,7 @@ found_more folder entries old new found there has =
     subst AreFound (sym has.kept) whole
 
 -- the entries of a kept folder are kept
-pub found_kept : (folder : List ℕ) (entries : List DirEntry) (old new : List Kept) (result : Result Unit ListEnd) → AreFound old → Contains old (as_folder folder) → Keeps folder entries old new result → OnOk result (AreFound new)
+pub found_kept : (folder : List ℕ) (entries : List DirEntry) (old new : List Kept) (result : Result Unit ListEnd) → AreFound old → Contains old (as_folder folder) → KeepsEntries folder entries old new result → OnOk result (AreFound new)
 found_kept folder entries old new (Ok done) found there has = found_more folder entries old new found there has
 found_kept folder entries old new (Err end) found there refusal = tt
 

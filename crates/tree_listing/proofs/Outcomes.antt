@@ -14,7 +14,7 @@ use Rattle.outside.specs.declared.outside_end.OutsideEnd.TheVariants.{Failed as 
 use Rattle.tree_listing.specs.Ends.{end_of}
 use Rattle.tree_listing.specs.Listing.{Listed}
 use Rattle.tree_listing.specs.Lists.{IsAnswer, ListsEachOnce, ListsTree}
-use Rattle.tree_listing.specs.inner.Kept.{root, AreFound, Keeps}
+use Rattle.tree_listing.specs.inner.Kept.{root, AreFound, KeepsEntries}
 use Rattle.tree_listing.specs.inner.Split.{folder_where, folders_among, Holds}
 use Rattle.tree_listing.specs.inner.Walk.{HasEnded, HasWalkedTo, IsEnd, IsWalk}
 use Rattle.tree_listing.specs.declared.kept.Kept.{Kept}
@@ -64,21 +64,21 @@ pub reader_end : (tree : Tree) (end : OutsideEnd) → IsEnd tree (end_of end)
 reader_end tree ReaderFailed = tt
 reader_end tree ReaderNoMemory = tt
 
-walked : (tree : Tree) → IsTree tree → (place : ℕ) (kept new : List Kept) → IsWalk tree place kept → place < length kept → (entries : List DirEntry) → AreEntries tree (get_or kept place root).path entries → (result : Result Unit ListEnd) → Keeps (get_or kept place root).path entries kept new result → MatchResult result (λ _. IsWalk tree (place + 1) new) (λ end. IsEnd tree end)
+walked : (tree : Tree) → IsTree tree → (place : ℕ) (kept new : List Kept) → IsWalk tree place kept → place < length kept → (entries : List DirEntry) → AreEntries tree (get_or kept place root).path entries → (result : Result Unit ListEnd) → KeepsEntries (get_or kept place root).path entries kept new result → MatchResult result (λ _. IsWalk tree (place + 1) new) (λ end. IsEnd tree end)
 walked tree is place kept new walk inside entries own (Ok done) keeps = step_folder tree is place kept new walk inside entries own keeps
 walked tree is place kept new walk inside entries own (Err (Over limit)) keeps = refused tree place kept walk inside entries own limit keeps
 walked tree is place kept new walk inside entries own (Err Failed) keeps = tt
 walked tree is place kept new walk inside entries own (Err NoMemory) keeps = tt
 
 -- a folder was listed, and its entries were kept or one of them was refused
-pub walked_on : (tree : Tree) → IsTree tree → (first : List (List ℕ)) (place : ℕ) (kept new : List Kept) (before now : ReaderView) → HasWalkedTo tree first place kept before → place < length kept → (get_or kept place root).kind ≡ Folder → (entries : List DirEntry) → AreEntries tree (get_or kept place root).path entries → now.listed ≡ before.listed ++ (get_or kept place root).path ∷ [] → (result : Result Unit ListEnd) → Keeps (get_or kept place root).path entries kept new result → MatchResult result (λ _. HasWalkedTo tree first (place + 1) new now) (λ end. HasEnded tree first now end)
+pub walked_on : (tree : Tree) → IsTree tree → (first : List (List ℕ)) (place : ℕ) (kept new : List Kept) (before now : ReaderView) → HasWalkedTo tree first place kept before → place < length kept → (get_or kept place root).kind ≡ Folder → (entries : List DirEntry) → AreEntries tree (get_or kept place root).path entries → now.listed ≡ before.listed ++ (get_or kept place root).path ∷ [] → (result : Result Unit ListEnd) → KeepsEntries (get_or kept place root).path entries kept new result → MatchResult result (λ _. HasWalkedTo tree first (place + 1) new now) (λ end. HasEnded tree first now end)
 walked_on tree is first place kept new before now to inside kind entries own joined result keeps =
     from result keeps (walked tree is place kept new to.walk inside entries own result keeps)
   where
     here : now.listed ≡ first ++ folders_among (take (place + 1) kept)
     here = joined ∙ ap (λ xs. xs ++ (get_or kept place root).path ∷ []) to.folders ∙ listed_more kept place inside Folder kind first
 
-    from : (result : Result Unit ListEnd) → Keeps (get_or kept place root).path entries kept new result → MatchResult result (λ _. IsWalk tree (place + 1) new) (λ end. IsEnd tree end) → MatchResult result (λ _. HasWalkedTo tree first (place + 1) new now) (λ end. HasEnded tree first now end)
+    from : (result : Result Unit ListEnd) → KeepsEntries (get_or kept place root).path entries kept new result → MatchResult result (λ _. IsWalk tree (place + 1) new) (λ end. IsEnd tree end) → MatchResult result (λ _. HasWalkedTo tree first (place + 1) new now) (λ end. HasEnded tree first now end)
     from (Ok done) has walk =
         let same : take (place + 1) new ≡ take (place + 1) kept = ap (take (place + 1)) has.kept ∙ take-append-le (place + 1) kept _ (omega arith) in
         record { walk = walk; folders = here ∙ ap (λ xs. first ++ folders_among xs) (sym same) }

@@ -1,5 +1,5 @@
 ghost use Rattle.std.specs.Prelude.{◌≡◌, ◌∷◌, [], IfOk};
-ghost use Rattle.tree_listing.specs.inner.Kept.{AreFew, Keeps, root};
+ghost use Rattle.tree_listing.specs.inner.Kept.{AreFew, KeepsEntries, root};
 ghost use Rattle.tree_listing.specs.inner.Split.{IsSplit};
 
 use crate::ListEnd;
@@ -35,7 +35,7 @@ pub(crate) fn keep_all(
     entries: Vec<DirEntry>,
 ) -> Result<(), ListEnd>
     requires { AreFew kept.old.items }
-    ensures { Keeps folder.now entries.items kept.old.items kept.new.items result }
+    ensures { KeepsEntries folder.now entries.items kept.old.items kept.new.items result }
 {
     for entry in entries {
         keep(alloc, kept, folder, entry)?;
@@ -45,7 +45,7 @@ pub(crate) fn keep_all(
 
 fn keep(alloc: Global, kept: &mut Vec<Kept>, folder: &str, entry: DirEntry) -> Result<(), ListEnd>
     requires { AreFew kept.old.items }
-    ensures { Keeps folder.now (entry ∷ []) kept.old.items kept.new.items result }
+    ensures { KeepsEntries folder.now (entry ∷ []) kept.old.items kept.new.items result }
 {
     if !is_segment(entry.name.get()) {
         return Ok(());

@@ -52,21 +52,21 @@ abbrev pub in_mode : Reader → Mode → Reader
 in_mode r m = record r { mode = m }
 
 -- a value is whole: it goes into the innermost bracket
-abbrev pub place_in : Reader → JsonTree → List Frame → Reader
-place_in r value [] = record r { mode = mode.After; root = Some value; stack = [] }
-place_in r value (frame.List at items ∷ frames) = record r { mode = mode.After; stack = frame.List at (items ++ value ∷ []) ∷ frames }
-place_in r value (frame.Object at members key key_at ∷ frames) =
+abbrev pub put_value : Reader → JsonTree → List Frame → Reader
+put_value r value [] = record r { mode = mode.After; root = Some value; stack = [] }
+put_value r value (frame.List at items ∷ frames) = record r { mode = mode.After; stack = frame.List at (items ++ value ∷ []) ∷ frames }
+put_value r value (frame.Object at members key key_at ∷ frames) =
     record r { mode = mode.After; stack = frame.Object at (put members key key_at value) [] key_at ∷ frames }
 
-abbrev pub placed : Reader → JsonTree → Reader
-placed r value = place_in r value r.stack
+abbrev pub with_value : Reader → JsonTree → Reader
+with_value r value = put_value r value r.stack
 
 abbrev pub opened : Reader → Frame → Mode → Reader
 opened r f m = record r { mode = m; stack = f ∷ r.stack }
 
 abbrev pub close_list_of : Reader → List Frame → Option Reader
 close_list_of r [] = None
-close_list_of r (frame.List at items ∷ frames) = Some (place_in r (tree_at at (node.List items)) frames)
+close_list_of r (frame.List at items ∷ frames) = Some (put_value r (tree_at at (node.List items)) frames)
 close_list_of r (frame.Object at members key key_at ∷ frames) = None
 
 abbrev pub closed_list : Reader → Option Reader
@@ -75,7 +75,7 @@ closed_list r = close_list_of r r.stack
 abbrev pub close_object_of : Reader → List Frame → Option Reader
 close_object_of r [] = None
 close_object_of r (frame.List at items ∷ frames) = None
-close_object_of r (frame.Object at members key key_at ∷ frames) = Some (place_in r (tree_at at (node.Object members)) frames)
+close_object_of r (frame.Object at members key key_at ∷ frames) = Some (put_value r (tree_at at (node.Object members)) frames)
 
 abbrev pub closed_object : Reader → Option Reader
 closed_object r = close_object_of r r.stack
@@ -137,14 +137,14 @@ after_step r byte =
     else spaced r byte))
 
 abbrev pub name_on : Reader → Letters → Option Letters → Reader
-name_on r l None = placed r (tree_at r.start (named l))
+name_on r l None = with_value r (tree_at r.start (named l))
 name_on r l (Some next) = in_mode r (mode.Name next)
 
 abbrev pub name_step : Reader → Letters → ℕ → Option Reader
 name_step r l byte = if byte == letter_of l then Some (name_on r l (letters_after l)) else None
 
 abbrev pub closed_number : Reader → Option Reader
-closed_number r = if is_utf8 r.word then Some (placed (record r { word = [] }) (tree_at r.start (node.Number r.word))) else None
+closed_number r = if is_utf8 r.word then Some (with_value (record r { word = [] }) (tree_at r.start (node.Number r.word))) else None
 
 abbrev pub number_on : Reader → Part → ℕ → Option Part → Option Reader
 number_on r p byte (Some next) = Some (record r { mode = mode.Number next; word = r.word ++ byte ∷ [] })
@@ -168,7 +168,7 @@ keyed_in r key (frame.Object at members old old_at ∷ frames) =
     Some (record r { mode = mode.Colon; stack = frame.Object at members key r.start ∷ frames })
 
 abbrev pub string_done : Reader → List ℕ → Option Reader
-string_done r content = if r.is_key then keyed_in r content r.stack else Some (placed r (tree_at r.start (node.Str content)))
+string_done r content = if r.is_key then keyed_in r content r.stack else Some (with_value r (tree_at r.start (node.Str content)))
 
 abbrev pub close_string_of : Reader → Option Reader
 close_string_of r = if is_utf8 r.word then string_done (record r { word = [] }) r.word else None

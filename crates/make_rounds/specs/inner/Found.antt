@@ -11,8 +11,8 @@ pub record Finding : Type 0 where
 abbrev pub with_number : List ℕ → ℕ → List ℕ
 with_number files file = if list_any (nat_eq file) files then files else files ++ file ∷ []
 
-abbrev pub with_file : Finding → ℕ → Finding
-with_file finding file = record finding { files = with_number finding.files file }
+abbrev pub with_finding : Finding → ℕ → Finding
+with_finding finding file = record finding { files = with_number finding.files file }
 
 -- files one after another
 abbrev pub with_numbers : List ℕ → List ℕ → List ℕ

@@ -6,7 +6,7 @@ use Rattle.pack_run.specs.Config.{Configured}
 use Rattle.pack_run.specs.Verdict.{entry_faults, entry_file}
 use Rattle.pack_run.specs.declared.entry.Entry.{Entry}
 
-pub record IsEntry (files : List (List ℕ × ℕ)) (config : Configured) (entry : Entry) : Type 0 where
+pub record IsFoundEntry (files : List (List ℕ × ℕ)) (config : Configured) (entry : Entry) : Type 0 where
   pub within : AllByRecursion (AllByRecursion (λ file. file.0 < length files)) entry.entries.items
   pub files_are : map numbers_of entry.entries.items ≡ option_to_list (entry_file files config.request) ∷ []
   pub faults_are : entry.faults.items ≡ entry_faults config (entry_file files config.request)

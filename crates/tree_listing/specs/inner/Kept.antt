@@ -77,5 +77,5 @@ IsRefusal folder entries old Failed = ⊥
 IsRefusal folder entries old NoMemory = Unit {0}
 
 -- the entries are kept, or one of them is refused
-abbrev pub Keeps : List ℕ → List DirEntry → List Kept → List Kept → Result Unit ListEnd → Type 0
-Keeps folder entries old new result = MatchResult result (λ _. HasKept folder entries old new) (λ end. IsRefusal folder entries old end)
+abbrev pub KeepsEntries : List ℕ → List DirEntry → List Kept → List Kept → Result Unit ListEnd → Type 0
+KeepsEntries folder entries old new result = MatchResult result (λ _. HasKept folder entries old new) (λ end. IsRefusal folder entries old end)

@@ -1,6 +1,6 @@
 use Rattle.std.proofs.Common.{◌≡◌, ℕ, List, take}
 use Rattle.asset_names.specs.Clashes.{first_named}
-use Rattle.asset_names.specs.Firsts.{first_id}
+use Rattle.asset_names.specs.inner.Firsts.{first_id}
 use Rattle.asset_names.proofs.Firsts.{clashes_before}
 use Rattle.asset_names.proofs.clash.clashes.Given as goal
 

@@ -2,7 +2,7 @@ use Rattle.std.proofs.Common.{◌≡◌, Bool, cond, Some, None, bytes_eq, ap, �
 use Rattle.std.proofs.lemmas.Map.Text.{hash_map_updates_str}
 use Rattle.std.proofs.lemmas.Slice.Eq.{bytes_eq-Decides}
 use Rattle.std.specs.Cmp.Lexicographic.{nat_list_eq_equiv}
-use Rattle.asset_names.specs.Firsts.{first_id}
+use Rattle.asset_names.specs.inner.Firsts.{first_id}
 use Rattle.asset_names.proofs.Firsts.{kept_by}
 use Rattle.asset_names.proofs.clash.first_or_put.Goals as goal
 

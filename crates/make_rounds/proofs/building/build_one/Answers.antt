@@ -1,11 +1,10 @@
 use Rattle.std.proofs.Common.{◌≡◌, ◌<◌, [], ◌∷◌, append-nil, refl, sym, ap, subst, ◌∙◌, length, inl}
 use Rattle.std.proofs.lemmas.Result.{err_from_is_err_and}
 use Rattle.outside.specs.declared.entry.Why.TheVariants.{Module}
-use Rattle.path_text.specs.Path.{IsNormal}
 use Rattle.tree_listing.specs.Listing.{lengths_of, length_at, path_at}
 use Rattle.make_rounds.specs.Record.{record_from}
 use Rattle.make_rounds.proofs.Gains.{reads_none}
-use Rattle.make_rounds.proofs.Trees.{there, normal, read_is}
+use Rattle.make_rounds.proofs.Trees.{there, read_is}
 use Rattle.make_rounds.proofs.building.build_one.Goals as goal
 
 pub returns-in_err-got-clause-told : goal.returns-in_err-got-clause-told
@@ -27,10 +26,8 @@ returns-clause-told g c = λ tree told listed.
     let reads = c.in_ok-got.ensures.reads.told tree told in
     let path : c.path-path.result.now ≡ path_at (lengths_of tree) c.args.file.0 = c.path-path.ensures.path ∙ ap (λ files. path_at files c.args.file.0) listed.files in
     let within : c.args.file.0 < length (lengths_of tree) = subst (λ files. c.args.file.0 < length files) listed.files c.requires in
-    let is = g.met.R.TreeReader.tells_a_tree c.args.reader.now tree told in
-    let named : IsNormal c.path-path.result.now = subst IsNormal (sym path) (normal tree c.args.file.0 within is) in
     record {
-      record_is = c.in_ok-record.ensures.value named
+      record_is = c.in_ok-record.ensures.value
           ∙ ap (λ files. record_from files c.args.file c.path-path.result.now (length_at files c.args.file.0) c.in_ok-got.got) listed.files
           ∙ ap (λ one. record_from (lengths_of tree) c.args.file one (length_at (lengths_of tree) c.args.file.0) c.in_ok-got.got) path
           ∙ ap (record_from (lengths_of tree) c.args.file (path_at (lengths_of tree) c.args.file.0) (length_at (lengths_of tree) c.args.file.0)) (read_is tree c.args.file.0 _ c.in_ok-got.got path reads.got);

@@ -21,13 +21,13 @@ returns-in-Whole-2-clause-shape c =
     c.whole_record.ensures
 
 pub returns-in-Whole-2-clause-value : goal.returns-in-Whole-2-clause-value
-returns-in-Whole-2-clause-value c = λ normal.
+returns-in-Whole-2-clause-value c =
     let files = c.args.listing.now.files in
     let path = c.args.path.now in
     let read : Reads files path c.in-Whole.text (reading.Whole c.in-Whole-2.items) = rw (c.get.ensures, c.in-Whole-2.is) at c.in_ok-items-in-Whole.ensures in
     let size = length_at files c.args.file.0 in
     IfOk-weaker c.whole_record.result _ _
-    (λ (rec : ModRecord) is. is ∙ whole_is files path normal c.args.file size c.in-Whole.text c.in-Whole-2.items read.0 read.1 ∙ ap (record_from files c.args.file path size) (sym c.in-Whole.is))
+    (λ (rec : ModRecord) is. is ∙ whole_is files path c.requires.normal c.args.file size c.in-Whole.text c.in-Whole-2.items read.0 read.1 ∙ ap (record_from files c.args.file path size) (sym c.in-Whole.is))
     c.whole_record.ensures
 
 pub returns-in-TooLong-clause-shape : goal.returns-in-TooLong-clause-shape

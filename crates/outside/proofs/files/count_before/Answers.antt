@@ -1,6 +1,6 @@
 use Rattle.std.proofs.Common.{rules}
 use Rattle.std.proofs.lemmas.List.Sorted.{IsPartitionPoint-from_clause}
-use Rattle.outside.specs.Cut.{is_before}
+use Rattle.outside.specs.inner.Cut.{is_before}
 use Rattle.outside.proofs.Cuts.{cut, partitioned, sorted_falls}
 use Rattle.outside.proofs.files.count_before.Goals as goal
 

@@ -1,7 +1,7 @@
 use Rattle.std.proofs.Common.{◌≡◌, ◌-◌, length, take, drop, rules, ap, ◌∙◌}
 use Rattle.std.proofs.lemmas.List.{take_rest}
 use Rattle.std.proofs.lemmas.List.Sorted.{IsPartitionPoint-from_clause}
-use Rattle.outside.specs.Cut.{IsCut, has_prefix}
+use Rattle.outside.specs.inner.Cut.{IsCut, has_prefix}
 use Rattle.outside.proofs.Cuts.{cut, partitioned, prefix_falls, sorted_drop, prefix_filter}
 use Rattle.outside.proofs.files.files_with_prefix.Goals as goal
 

@@ -1,5 +1,5 @@
 use Rattle.std.proofs.Common.{◌≡◌, ◌++◌, ◌∷◌, take, drop, rules, sym, ◌∙◌}
-use Rattle.outside.specs.Cut.{IsCut, is_before}
+use Rattle.outside.specs.inner.Cut.{IsCut, is_before}
 use Rattle.outside.proofs.Cuts.{put_at}
 use Rattle.outside.proofs.files.put_file.Goals as goal
 

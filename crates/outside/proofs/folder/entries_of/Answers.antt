@@ -1,6 +1,6 @@
 use Rattle.std.proofs.Common.{◌≡◌, filter, take, rules}
 use Rattle.std.proofs.lemmas.List.{take_all}
-use Rattle.outside.specs.Cut.{has_prefix}
+use Rattle.outside.specs.inner.Cut.{has_prefix}
 use Rattle.outside.proofs.Listings.{listing}
 use Rattle.outside.proofs.folder.entries_of.Goals as goal
 

@@ -1,5 +1,5 @@
 use Rattle.std.proofs.Common.{◌≡◌, [], fold, take}
-use Rattle.outside.specs.Walk.{child_in, with_entry}
+use Rattle.outside.specs.inner.Walk.{child_in, with_entry}
 use Rattle.outside.proofs.folder.entries_of.Given as goal
 
 abbrev pub invariant-loop-file : goal.invariant-loop-file

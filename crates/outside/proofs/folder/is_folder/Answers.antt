@@ -1,6 +1,6 @@
 use Rattle.std.proofs.Common.{◌≡◌, filter, rules, sym, ◌∙◌}
 use Rattle.std.specs.List.{list_any}
-use Rattle.outside.specs.Cut.{has_prefix}
+use Rattle.outside.specs.inner.Cut.{has_prefix}
 use Rattle.outside.specs.Tree.{within}
 use Rattle.outside.proofs.Within.{folder_is_held, any_within}
 use Rattle.outside.proofs.folder.is_folder.Goals as goal

@@ -1,7 +1,7 @@
 use Rattle.std.proofs.Common.{◌≡◌, ◌++◌, ◌∷◌, [], None, rules, ap, ◌∙◌, lit<}
 use Rattle.std.proofs.lemmas.Str.Pattern.{strip_prefix_char}
 use Rattle.outside.specs.Tree.{within}
-use Rattle.outside.specs.Walk.{rest_within}
+use Rattle.outside.specs.inner.Walk.{rest_within}
 use Rattle.outside.proofs.Within.{not_root, rest_none, rest_after, slash_after}
 use Rattle.outside.proofs.folder.rest_within.Goals as goal
 

@@ -1,7 +1,7 @@
 use Rattle.std.proofs.Common.{◌++◌, ◌∷◌, [], refl, ap, sym, ◌∙◌, subst, length, ◌<◌, arith}
 use Rattle.std.proofs.lemmas.List.{get_or_read}
 use Rattle.std.proofs.lemmas.Result.{err_from_is_err_and}
-use Rattle.tree_listing.specs.inner.Kept.{root, Keeps}
+use Rattle.tree_listing.specs.inner.Kept.{root, KeepsEntries}
 use Rattle.tree_listing.specs.declared.kept.Kept.{Kept}
 use Rattle.tree_listing.specs.declared.list_end.ListEnd.TheVariants.{NoMemory}
 use Rattle.outside.specs.Reads.{AreEntries}
@@ -46,7 +46,7 @@ returns-clause-found g c =
     let kind = ap (λ (x : Kept). x.kind) (sym at) ∙ c.in_default.is in
     let path = ap (λ (x : Kept). x.path) (sym at-2) ∙ c.in_ok-folder.ensures.cases in
     found_kept c.in_ok-folder.folder c.in_ok-entries.entries.items c.args.kept.now.items c.keep_all.new.kept.items c.keep_all.result c.requires.found (folder_kept_at c.args.kept.now.items c.args.place c.in_ok-folder.folder inside path kind)
-    (subst (λ x. Keeps x c.in_ok-entries.entries.items c.args.kept.now.items c.keep_all.new.kept.items c.keep_all.result) c.get-2.ensures c.keep_all.ensures)
+    (subst (λ x. KeepsEntries x c.in_ok-entries.entries.items c.args.kept.now.items c.keep_all.new.kept.items c.keep_all.result) c.get-2.ensures c.keep_all.ensures)
 
 pub returns-clause-told : goal.returns-clause-told
 returns-clause-told g c = λ tree told first to.
@@ -63,5 +63,5 @@ returns-clause-told g c = λ tree told first to.
           (subst (λ x. AreEntries tree x c.in_ok-entries.entries.items) (c.get.ensures ∙ sym path) lists.entries)
           (lists.listed ∙ ap (λ x. before.listed ++ x ∷ []) (c.get.ensures ∙ sym path))
           c.keep_all.result
-          (subst (λ x. Keeps x c.in_ok-entries.entries.items c.args.kept.now.items c.keep_all.new.kept.items c.keep_all.result) (c.get-2.ensures ∙ sym path) c.keep_all.ensures);
+          (subst (λ x. KeepsEntries x c.in_ok-entries.entries.items c.args.kept.now.items c.keep_all.new.kept.items c.keep_all.result) (c.get-2.ensures ∙ sym path) c.keep_all.ensures);
     }
