@@ -3,6 +3,7 @@ pub mod BlankLemmas
 pub mod CountLemmas
 pub mod DepthLemmas
 pub mod FamilyLemmas
+pub mod FaultLemmas
 pub mod LanguageLemmas
 pub mod LawLemmas
 pub mod Literals

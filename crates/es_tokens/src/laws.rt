@@ -38,6 +38,11 @@ pub fn answers_are_the_tokens()
         → answers_of most text ≡ map Ok (reverse fails.found) ++ Err fault ∷ [] }
 {}
 
+/// The first fault stands in the text, or at its end.
+pub fn faults_lie_in_the_text()
+    ensures { (text : List ℕ) (fault : TokenFault) → tokens_of text ≡ Err fault → fault.offset ≤ length text }
+{}
+
 /// No span is empty, the spans lie in order and in the text, and there are no more than the text has bytes.
 pub fn spans_lie_in_order()
     ensures order { (text : List ℕ) (tokens : List Token)

@@ -18,3 +18,4 @@ pub mod GoesOnLaws
 pub mod RunLaws
 pub mod OneAnswer
 pub mod AnswerLaws
+pub mod FaultPlaces

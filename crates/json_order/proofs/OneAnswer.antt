@@ -29,7 +29,7 @@ goes_on_sooner at deep k n text h (more, t, is) =
     (r.0 ++ more, t, subst (λ (w : List ℕ). IsText deep t at w) (ap (λ (w : List ℕ). w ++ more) r.1 ∙ append_assoc (take k text) r.0 more) is)
 
 -- what stands before a fault goes on
-fault_before : (k : JsonKind) (at : ℕ) (text : List ℕ) (n : ℕ) → IsFaultOf k at text n → GoesOn at depth_limit (take n text) × (n ≤ length text)
+pub fault_before : (k : JsonKind) (at : ℕ) (text : List ℕ) (n : ℕ) → IsFaultOf k at text n → GoesOn at depth_limit (take n text) × (n ≤ length text)
 fault_before kind.Byte at text n (stops, never) = (stops.before, let h : n < length text = stops.within in omega arith)
 fault_before kind.Depth at text n (stops, can) = (stops.before, let h : n < length text = stops.within in omega arith)
 fault_before kind.End at text n (same, goes, never) =
