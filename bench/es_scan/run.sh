@@ -5,10 +5,10 @@
 set -eu
 folder=${1:-/usr/lib/node_modules}
 . "$(dirname "$0")/../workspace.sh"
-copy_crates es_scan es_tokens fault_place form_shapes graph_types path_text runs_scan
+copy_crates es_scan es_tokens fault_place form_shapes graph_types magic_comments pack_util path_text runs_scan test_escapes
 {
     printf 'bench: es_scan es_tokens fault_place\n'
-    grep -E '^(es_scan|es_tokens|fault_place|form_shapes|graph_types|path_text|runs_scan):' "$root/crates.txt"
+    grep -E '^(es_scan|es_tokens|fault_place|form_shapes|graph_types|magic_comments|pack_util|path_text|runs_scan|test_escapes):' "$root/crates.txt"
 } >"$work/crates.txt"
 cat >"$work/crates/bench/src/main.rt" <<'RATTLE'
 #![tactic(auto)]

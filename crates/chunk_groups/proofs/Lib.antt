@@ -1,7 +1,17 @@
+pub mod Adding
 pub mod Brought
+pub mod Counted
+pub mod Faulted
+pub mod Filed
+pub mod FilesFound
 pub mod Filled
+pub mod GraphGrown
 pub mod Growing
 pub mod Infos
 pub mod Joined
 pub mod Marks
+pub mod Names
+pub mod Ranges
+pub mod Standing
+pub mod Telling
 pub mod Within

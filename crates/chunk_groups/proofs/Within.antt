@@ -24,7 +24,7 @@ all-given {X} {Y} P h each (x ∷ xs) = at (all-given P h each xs) (h x) (each x
     at rest None given is = rw is rest
     at rest (Some y) given is = rw is (All-cons P y (filter_map h xs) given rest)
 
-all-flat : {X Y : Type 0} (P : Y → Type 0) (h : X → List Y) (xs : List X) → All (λ x. All P (h x)) xs → All P (flat_map h xs)
+pub all-flat : {X Y : Type 0} (P : Y → Type 0) (h : X → List Y) (xs : List X) → All (λ x. All P (h x)) xs → All P (flat_map h xs)
 all-flat P h [] each = All-nil P
 all-flat P h (x ∷ xs) each = All-append P (h x) (flat_map h xs) (each 0 x (omega arith)) (all-flat P h xs (λ k d l. each (suc k) d (omega arith)))
 

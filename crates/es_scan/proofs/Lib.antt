@@ -1,6 +1,7 @@
-pub mod CommentLemmas
+pub mod FlawLemmas
 pub mod Mapped
 pub mod NameLemmas
 pub mod NumberLemmas
 pub mod QuietLemmas
 pub mod ScanLemmas
+pub mod WholeLemmas

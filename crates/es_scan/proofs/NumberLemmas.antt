@@ -1,5 +1,5 @@
 -- The place of what a token gives among all that is given.
-use Rattle.std.proofs.Common.{◌≡◌, ◌<◌, ◌≤◌, ℕ, suc, zero, List, [], ◌∷◌, ◌++◌, length, Option, None, Some, refl, sym, ap, ◌∙◌, arith, inl, inr, ◌⊎◌, subst}
+use Rattle.std.proofs.Common.{◌≡◌, ◌<◌, ℕ, suc, zero, List, [], ◌∷◌, ◌++◌, length, Some, refl, sym, arith, inl, inr, ◌⊎◌, subst}
 use Rattle.std.specs.Prelude.{slice_get}
 use Rattle.es_tokens.specs.declared.token.Token.{Token}
 use Rattle.graph_types.specs.declared.item.Item.{Item}

@@ -1,7 +1,6 @@
 -- Where nothing stands at any token, nothing is given.
-use Rattle.std.proofs.Common.{◌≡◌, ◌+◌, ℕ, suc, zero, Bool, true, false, cond, List, [], ◌++◌, map, length, refl, sym, ap, ◌∙◌, add-one, append-nil}
+use Rattle.std.proofs.Common.{◌≡◌, ℕ, suc, zero, Bool, true, false, cond, List, map, length, refl, sym, ap, ◌∙◌, add-one, append-nil}
 use Rattle.es_tokens.specs.declared.token.Token.{Token}
-use Rattle.form_shapes.specs.Source.{is_at}
 use Rattle.form_shapes.specs.Standing.{standing_at, keyword_at, is_behind}
 use Rattle.form_shapes.specs.declared.sign.Sign.TheVariants as sign
 use Rattle.form_shapes.specs.declared.standing.Standing.{Standing}
@@ -9,8 +8,7 @@ use Rattle.form_shapes.specs.declared.standing.Standing.TheVariants.{Nothing}
 use Rattle.es_scan.specs.Flaws.{fault_of}
 use Rattle.es_scan.specs.Quiet.{IsQuiet, quiet_scan}
 use Rattle.es_scan.specs.Scan.{scan_of}
-use Rattle.es_scan.specs.inner.Given.{joined, given_at, given_upto}
-use Rattle.es_scan.specs.declared.given.Given.{Given}
+use Rattle.es_scan.specs.inner.Given.{joined, given_upto}
 use Rattle.es_scan.proofs.ScanLemmas.{given_more, nothing_here, same_given, shown}
 
 no_keyword : (text : List ℕ) (tokens : List Token) (at : ℕ) → IsQuiet text tokens → keyword_at text tokens at ≡ Nothing

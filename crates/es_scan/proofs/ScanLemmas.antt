@@ -11,7 +11,7 @@ use Rattle.es_scan.specs.Binds.{binds_by}
 use Rattle.es_scan.specs.Edits.{edits_by}
 use Rattle.es_scan.specs.Exports.{exports_by}
 use Rattle.es_scan.specs.Flaws.{flaws_by, fault_of}
-use Rattle.es_scan.specs.Magic.{magic_by}
+use Rattle.magic_comments.specs.Magic.{magic_by}
 use Rattle.fault_place.specs.declared.fault.Fault.{Fault}
 use Rattle.es_scan.specs.declared.scanned.Scan.{Scan}
 use Rattle.es_scan.specs.Items.{item_by}

@@ -10,12 +10,12 @@ use Rattle.form_shapes.specs.declared.standing.Standing.{Standing}
 use Rattle.form_shapes.specs.declared.standing.Standing.TheVariants.{Declaration, ImportCall, RequireCall}
 use Rattle.graph_types.specs.declared.edit.Edit.{Edit}
 use Rattle.graph_types.specs.declared.edit.EditText.TheVariants.{Fixed, Load}
-use Rattle.es_scan.specs.Comments.{begins, line_length}
+use Rattle.magic_comments.specs.Comments.{begins, line_length}
 use Rattle.es_scan.specs.Default.{default_at}
 use Rattle.es_scan.specs.Items.{span_of}
 use Rattle.es_scan.specs.declared.default.Default.{Default}
 use Rattle.es_scan.specs.declared.default.Default.TheVariants.{Expression, Named, Unnamed}
-use Rattle.es_scan.specs.declared.magic.Magic.{Magic}
+use Rattle.magic_comments.specs.declared.magic.Magic.{Magic}
 
 abbrev pub fixed : Span → List ℕ → Edit
 fixed span put = record { span = span; put = Fixed put }

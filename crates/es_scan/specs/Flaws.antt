@@ -12,7 +12,7 @@ use Rattle.form_shapes.specs.declared.sign.Sign.TheVariants as sign
 use Rattle.form_shapes.specs.declared.standing.Standing.{Standing}
 use Rattle.form_shapes.specs.declared.standing.Standing.TheVariants.{BadForm, OddImport}
 use Rattle.es_scan.specs.declared.flaws.Flaw.{Flaw}
-use Rattle.es_scan.specs.declared.magic.Magic.{Magic}
+use Rattle.magic_comments.specs.declared.magic.Magic.{Magic}
 
 abbrev pub flaw_at : List Token → ℕ → FaultKind → Flaw
 flaw_at tokens at kind = record { offset = start_at tokens at; kind = kind; detail = [] }

@@ -11,8 +11,8 @@ use Rattle.form_shapes.specs.declared.standing.Standing.TheVariants.{Declaration
 use Rattle.graph_types.specs.declared.item.Item.{Item}
 use Rattle.graph_types.specs.declared.item.ItemKind.{ItemKind}
 use Rattle.graph_types.specs.declared.item.ItemKind.TheVariants as kind
-use Rattle.es_scan.specs.Text.{unquoted}
-use Rattle.es_scan.specs.declared.magic.Magic.{Magic}
+use Rattle.form_shapes.specs.Text.{unquoted}
+use Rattle.magic_comments.specs.declared.magic.Magic.{Magic}
 
 -- the kind of a declaration's item, where it names a module
 abbrev pub declared_kind : Shape → Option ItemKind

@@ -1,16 +1,13 @@
 pub mod Binds
-pub mod Comments
 pub mod Default
 pub mod Edits
 pub mod Exports
 pub mod Flaws
 pub mod Items
-pub mod Magic
 pub mod Names
 pub mod Notes
-pub mod Pairs
 pub mod Quiet
 pub mod Scan
 pub mod Stars
-pub mod Text
+pub mod Whole
 pub mod inner

@@ -6,7 +6,7 @@ use Rattle.form_shapes.specs.declared.standing.Standing.{Standing}
 use Rattle.form_shapes.specs.declared.standing.Standing.TheVariants.{ImportCall, OddImport, OddRequire}
 use Rattle.graph_types.specs.declared.note.Note.{Note}
 use Rattle.graph_types.specs.declared.note.NoteKind.TheVariants.{N2}
-use Rattle.es_scan.specs.declared.magic.Magic.{Magic}
+use Rattle.magic_comments.specs.declared.magic.Magic.{Magic}
 
 -- a call of `import` tells what its magic comments do; a call of `require` without one text is told itself
 unfoldable pub notes_by : List Token → ℕ → Magic → Standing → List Note

@@ -1,5 +1,5 @@
 -- A text without the keywords of forms gives nothing (this project).
-use Rattle.std.specs.Prelude.{◌≡◌, ℕ, Bool, false, List, []}
+use Rattle.std.specs.Prelude.{◌≡◌, ℕ, false, List, []}
 use Rattle.es_tokens.specs.declared.token.Token.{Token}
 use Rattle.form_shapes.specs.Source.{is_at}
 use Rattle.form_shapes.specs.declared.sign.Sign.TheVariants as sign

@@ -14,11 +14,11 @@ use Rattle.es_scan.specs.Edits.{edits_by, hashbang_edits}
 use Rattle.es_scan.specs.Exports.{exports_by}
 use Rattle.es_scan.specs.Flaws.{flaws_by, repeats, fault_of}
 use Rattle.es_scan.specs.Items.{item_by}
-use Rattle.es_scan.specs.Magic.{magic_by}
+use Rattle.magic_comments.specs.Magic.{magic_by}
 use Rattle.es_scan.specs.Notes.{notes_by}
 use Rattle.es_scan.specs.Stars.{stars_by, is_declaration}
 use Rattle.es_scan.specs.declared.flaws.Flaw.{Flaw}
-use Rattle.es_scan.specs.declared.magic.Magic.{Magic}
+use Rattle.magic_comments.specs.declared.magic.Magic.{Magic}
 use Rattle.es_scan.specs.declared.scanned.Scan.{Scan}
 
 -- what the tokens before a number give, one after another

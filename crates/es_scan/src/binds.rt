@@ -4,10 +4,9 @@ ghost use Rattle.es_scan.specs.Binds.{default_bind, space_bind, named_bind, name
 
 use crate::list::append;
 use crate::names::{left_name, right_name};
-use crate::text::owned;
 use es_tokens::Token;
 use fault_place::{NoMemory, Seq, Text};
-use form_shapes::{Shape, Source, Standing};
+use form_shapes::{Shape, Source, Standing, owned};
 use graph_types::Bind;
 use std::alloc::Global;
 

@@ -1,14 +1,13 @@
 ghost use Rattle.std.specs.Prelude.{◌≡◌, ◌+◌, ◌<◌, ◌≤◌, ◌^◌, ◌∷◌, [], IfOk, length, if◌then◌else◌};
 ghost use Rattle.es_scan.specs.Edits.{fixed, is_removed, default_edits, declared_edits, call_edit, edits_by, hashbang_edits};
 
-use crate::comment::{begins, line_length};
 use crate::default::{Default, default_at};
 use crate::items::span_of;
 use crate::list::one;
-use crate::magic::Magic;
 use fault_place::{NoMemory, Seq, Span, Text};
 use form_shapes::{Form, Shape, Source, Standing};
 use graph_types::{Edit, EditText};
+use magic_comments::{Magic, begins, line_length};
 use std::alloc::Global;
 
 fn fixed(alloc: Global, span: Span, put: &str) -> Result<Edit, NoMemory>

@@ -4,10 +4,9 @@ ghost use Rattle.es_scan.specs.Exports.{space_export, default_name, default_expo
 use crate::default::{Default, default_at};
 use crate::list::one;
 use crate::names::{left_name, right_name};
-use crate::text::owned;
 use es_tokens::Token;
 use fault_place::{NoMemory, Seq, Text};
-use form_shapes::{Form, Shape, Source, Standing};
+use form_shapes::{Form, Shape, Source, Standing, owned};
 use graph_types::{Export, ExportFrom};
 use std::alloc::{AllocError, Global};
 
@@ -111,13 +110,13 @@ fn variables_exports(
     ensures { IfOk result
         (λ exports. exports ≡ variables_exports source.entry.text.now source.entry.tokens.now at) }
 {
-    let parts = source.declarators(alloc, at)?;
-    if parts.len() > room {
+    let names = source.declared_names(alloc, at)?;
+    if names.len() > room {
         return Err(AllocError);
     }
     let mut exports = Seq::new(alloc);
-    for part in &parts {
-        exports.push(own_export(alloc, left_name(source.text, part))?)?;
+    for name in &names {
+        exports.push(own_export(alloc, name)?)?;
     }
     Ok(exports)
 }

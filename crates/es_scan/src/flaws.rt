@@ -2,9 +2,9 @@ ghost use Rattle.std.specs.Prelude.{◌≡◌, ◌+◌, ◌<◌, ◌^◌, IfOk};
 ghost use Rattle.es_scan.specs.Flaws.{flaw_at, is_method, flaws_by};
 
 use crate::list::one;
-use crate::magic::Magic;
 use fault_place::{FaultKind, NoMemory, Seq, Text};
 use form_shapes::{Sign, Source, Standing};
+use magic_comments::Magic;
 use std::alloc::Global;
 
 /// A fault at an offset of the text, whose line and column aren't known yet.

@@ -1,9 +1,14 @@
 //! What holds of the definitions: calls that do nothing and whose clauses are the laws.
-ghost use Rattle.std.specs.Prelude.{◌≡◌, ◌<◌, ◌∷◌, [], ℕ, List, Some, slice_get};
+ghost use Rattle.std.specs.Prelude.{◌≡◌, ◌<◌, ◌≤◌, ◌∷◌, [], ℕ, List, Ok, Some, length, slice_get};
+ghost use Rattle.es_tokens.specs.Tokens.{tokens_of};
 ghost use Rattle.es_tokens.specs.declared.token.Token.{Token};
+ghost use Rattle.fault_place.specs.declared.limit.TheConstants.{MAX_TEXT};
 ghost use Rattle.graph_types.specs.declared.item.Item.{Item};
 ghost use Rattle.es_scan.specs.Quiet.{IsQuiet, quiet_scan};
 ghost use Rattle.es_scan.specs.Scan.{item_number, items_at, scan_of, upto};
+ghost use Rattle.es_scan.specs.Whole.{IsWholeScan};
+
+use es_tokens::laws::{one_list_or_one_fault, spans_lie_in_order};
 
 /// A text without `import`, `export` and `require` gives nothing, but for the edit of a `#!`.
 pub fn quiet_text_gives_nothing()
@@ -17,3 +22,12 @@ pub fn number_names_the_item()
         → at < size → items_at text tokens at ≡ item ∷ []
         → slice_get (upto (items_at text tokens) size) (item_number text tokens at) ≡ Some item }
 {}
+
+/// The numbers in a scan name items of their kinds, its items lie in the text, and there are few of them.
+pub fn scan_is_whole()
+    ensures { (path text : List ℕ) (tokens : List Token)
+        → length text ≤ MAX_TEXT → tokens_of text ≡ Ok tokens → IsWholeScan text (scan_of path text tokens) }
+{
+    one_list_or_one_fault();
+    spans_lie_in_order();
+}

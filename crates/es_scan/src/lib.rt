@@ -6,7 +6,6 @@
 #![tactic(auto)]
 
 mod binds;
-mod comment;
 mod default;
 mod edits;
 mod exports;
@@ -15,15 +14,12 @@ mod given;
 mod items;
 pub mod laws;
 mod list;
-mod magic;
 mod names;
 mod notes;
-mod pair;
 mod repeated;
 mod scanned;
 mod scanner;
 mod stars;
-mod text;
 
 pub use scanned::Scan;
 pub use scanner::scan;

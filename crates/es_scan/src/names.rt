@@ -8,12 +8,12 @@ use form_shapes::Source;
 pub(crate) fn left_name<'a>(text: &'a [u8], part: &'a [Token]) -> &'a [u8]
     ensures { result.now ≡ left_name text.now part.now }
 {
-    Source { text, tokens: part }.text_at(0)
+    Source::new(text, part).text_at(0)
 }
 
 /// The last name of a specifier.
 pub(crate) fn right_name<'a>(text: &'a [u8], part: &'a [Token]) -> &'a [u8]
     ensures { result.now ≡ right_name text.now part.now }
 {
-    Source { text, tokens: part }.text_at(part.len().saturating_sub(1))
+    Source::new(text, part).text_at(part.len().saturating_sub(1))
 }

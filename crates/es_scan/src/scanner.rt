@@ -1,8 +1,10 @@
 ghost use Rattle.std.specs.Prelude.{◌≡◌, ◌<◌, ◌≤◌, ◌+◌, ◌++◌, ◌^◌, ℕ, List, Ok, length, map, IfOk, OnOk};
+ghost use Rattle.std.specs.List.{All};
 ghost use Rattle.es_tokens.specs.Tokens.{tokens_of};
+ghost use Rattle.form_shapes.specs.Declaration.{IsDeclaration};
 ghost use Rattle.form_shapes.specs.Standing.{standing_at};
 ghost use Rattle.es_scan.specs.Flaws.{fault_of};
-ghost use Rattle.es_scan.specs.Magic.{magic_by};
+ghost use Rattle.magic_comments.specs.Magic.{magic_by};
 ghost use Rattle.es_scan.specs.Scan.{export_names, local_names, scan_of};
 ghost use Rattle.es_scan.specs.inner.Given.{given_by, with_repeats};
 ghost use Rattle.es_scan.specs.inner.Seen.{HasNames};
@@ -15,15 +17,16 @@ use crate::flaws::{Flaw, flaws_by};
 use crate::given::{Given, join};
 use crate::items::item_by;
 use crate::list::option_list;
-use crate::magic::magic_by;
 use crate::notes::notes_by;
 use crate::repeated::{export_names, local_names, see_names};
 use crate::scanned::Scan;
 use crate::stars::{is_declaration, stars_by};
 use es_tokens::Token;
+use es_tokens::laws::{one_list_or_one_fault, spans_lie_in_order};
 use fault_place::{Fault, MAX_TEXT, NoMemory, Places, Seq, Text};
-use form_shapes::{Source, Standing};
-use std::alloc::{AllocError, Global};
+use form_shapes::{Declaration, Source, Standing};
+use magic_comments::magic_by;
+use std::alloc::Global;
 use std::collections::BTreeSet;
 
 /// What the tokens so far give, and which names they export and bind.
@@ -143,6 +146,23 @@ fn add(alloc: Global, source: Source, at: usize, state: &mut State) -> Result<()
     }
 }
 
+/// Goes on to the declaration of variables that is exported at a token, where one is.
+fn follow<'a>(
+    alloc: Global,
+    source: Source<'a>,
+    at: usize,
+    known: &mut Declaration<'a>,
+) -> Result<(), NoMemory>
+    requires there { at < length source.tokens.now }
+    requires known { IsDeclaration source.text.now source.tokens.now known.old }
+    ensures { OnOk result (IsDeclaration source.entry.text.now source.entry.tokens.now known.new) }
+{
+    if !source.exports_variables(at) {
+        return Ok(());
+    }
+    known.move_to(alloc, source, at + 2)
+}
+
 /// Adds what all tokens give.
 fn add_all(alloc: Global, source: Source, state: &mut State) -> Result<(), NoMemory>
     requires short { length source.text.now ≤ MAX_TEXT }
@@ -150,8 +170,10 @@ fn add_all(alloc: Global, source: Source, state: &mut State) -> Result<(), NoMem
     requires upto { IsUpto source.text.now source.tokens.now 0 state.old }
     ensures { OnOk result (IsUpto source.entry.text.now source.entry.tokens.now (length source.entry.tokens.now) state.new) }
 {
+    let mut known = Declaration::nothing(alloc, source);
     for at in 0..source.tokens.len() {
-        add(alloc, source, at, state)?;
+        follow(alloc, source, at, &mut known)?;
+        add(alloc, source.knowing(&known), at, state)?;
     }
     Ok(())
 }
@@ -161,34 +183,28 @@ fn fault_of(
     path: &str,
     text: &[u8],
     places: &mut Places<'_>,
-    flaw: Flaw,
+    flaw: &Flaw,
 ) -> Result<Fault, NoMemory>
-    requires { places.old ≡ text.now }
-    ensures fault { IfOk result (λ fault. fault ≡ fault_of path.now text.now flaw) }
+    requires text { places.old ≡ text.now }
+    requires within { flaw.now.offset ≤ length text.now }
+    ensures fault { IfOk result (λ fault. fault ≡ fault_of path.now text.now flaw.now) }
     ensures text { places.new ≡ places.old }
 {
-    if flaw.offset as usize > text.len() {
-        return Err(AllocError);
-    }
     Ok(Fault {
         place: places.place(alloc, path, u64::from(flaw.offset))?,
         kind: flaw.kind,
-        detail: flaw.detail,
+        detail: flaw.detail.clone()?,
     })
 }
 
 /// Finds the line and the column of each.
-fn place_all(
-    alloc: Global,
-    path: &str,
-    text: &[u8],
-    flaws: Seq<Flaw>,
-) -> Result<Seq<Fault>, NoMemory>
-    ensures { IfOk result (λ faults. faults ≡ map (fault_of path.now text.now) flaws) }
+fn place_all(alloc: Global, path: &str, text: &[u8], flaws: &[Flaw]) -> Result<Seq<Fault>, NoMemory>
+    requires { All (λ flaw. flaw.offset ≤ length text.now) flaws.now }
+    ensures { IfOk result (λ faults. faults ≡ map (fault_of path.now text.now) flaws.now) }
 {
     let mut places = Places::new(text);
     let mut faults = Seq::new(alloc);
-    for flaw in flaws.into_vec() {
+    for flaw in flaws {
         faults.push(fault_of(alloc, path, text, &mut places, flaw)?)?;
     }
     Ok(faults)
@@ -200,11 +216,10 @@ pub fn scan(alloc: Global, path: &str, text: &[u8], tokens: &[Token]) -> Result<
     requires tokens { tokens_of text.now ≡ Ok tokens.now }
     ensures { IfOk result (λ scan. scan ≡ scan_of path.now text.now tokens.now) }
 {
-    if tokens.len() > text.len() {
-        return Err(AllocError);
-    }
+    one_list_or_one_fault();
+    spans_lie_in_order();
     let mut state = State::new(alloc, text, tokens)?;
-    add_all(alloc, Source { text, tokens }, &mut state)?;
+    add_all(alloc, Source::new(text, tokens), &mut state)?;
     let given = state.given;
     Ok(Scan {
         items: given.items,
@@ -213,7 +228,7 @@ pub fn scan(alloc: Global, path: &str, text: &[u8], tokens: &[Token]) -> Result<
         stars: given.stars,
         edits: given.edits,
         notes: given.notes,
-        faults: place_all(alloc, path, text, given.flaws)?,
+        faults: place_all(alloc, path, text, given.flaws.as_slice())?,
         es: given.es,
     })
 }

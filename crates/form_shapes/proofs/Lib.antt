@@ -1,1 +1,2 @@
+pub mod DeclarationLemmas
 pub mod LongestLemmas

@@ -1,8 +1,11 @@
+pub mod Declaration
 pub mod Forms
 pub mod Longest
 pub mod Names
+pub mod Parts
 pub mod Shapes
 pub mod Sign
 pub mod Source
 pub mod Standing
+pub mod Text
 pub mod Variables

@@ -5,7 +5,7 @@ use Rattle.std.specs.Str.{bytes_eq}
 use Rattle.es_tokens.specs.declared.token.Token.{Token}
 use Rattle.es_tokens.specs.declared.token.TokenClass.{TokenClass}
 use Rattle.es_tokens.specs.declared.token.TokenClass.TheVariants as class
-use Rattle.form_shapes.specs.Source.{has_sign, text_of}
+use Rattle.form_shapes.specs.Source.{has_sign, is_at, text_at, text_of}
 use Rattle.form_shapes.specs.declared.sign.Sign.TheVariants as sign
 
 -- keywords that are values
@@ -81,3 +81,13 @@ begins_with_name text (name ∷ rest) = has_sign text sign.Name name
 abbrev pub behind_variables : List ℕ → List Token → ℕ → Option ℕ
 behind_variables text tokens at =
     if list_all (begins_with_name text) (declarators text tokens at) then Some (at + length (declaration text (drop at tokens))) else None
+
+-- the bytes of the first of some tokens: a declarator's name
+abbrev pub first_text : List ℕ → List Token → List ℕ
+first_text text tokens = text_at text tokens 0
+
+-- `export` with `var`, `let` or `const` stands at a token
+abbrev pub exports_variables : List ℕ → List Token → ℕ → Bool
+exports_variables text tokens at =
+    is_at text tokens sign.Export at
+    && (is_at text tokens sign.Var (at + 1) || (is_at text tokens sign.Let (at + 1) || is_at text tokens sign.Const (at + 1)))

@@ -1,15 +1,19 @@
 ghost use Rattle.std.specs.Prelude.{◌≡◌, ◌-◌, ◌≤◌, drop, length, slice_range};
+ghost use Rattle.form_shapes.specs.Declaration.{IsKnown};
 ghost use Rattle.form_shapes.specs.Source.{has_sign, is_bracket_of, is_bracket, text_of};
 
-use crate::Sign;
 use crate::sign::is_that_punct;
+use crate::{Declaration, Sign};
 use es_tokens::{Token, TokenClass};
 
-/// A text and its tokens.
+/// A text and its tokens, and what is known of one declaration of variables in them.
 #[derive(Clone, Copy, Debug)]
 pub struct Source<'a> {
     pub text: &'a [u8],
     pub tokens: &'a [Token],
+    pub known: Option<&'a Declaration<'a>>,
+
+    ghost right: { IsKnown text.now tokens.now known },
 }
 
 /// The members from a number on.
@@ -64,9 +68,45 @@ pub(crate) fn is_bracket(text: &[u8], token: &Token) -> bool
 }
 
 impl<'a> Source<'a> {
-    ghost use Rattle.std.specs.Prelude.{◌≡◌, ◌+◌, ◌<◌, ◌^◌, true, length, slice_get};
+    ghost use Rattle.std.specs.Prelude.{◌≡◌, ◌+◌, ◌<◌, ◌^◌, true, length, slice_get, IfSome};
     ghost use Rattle.std.specs.Option.{option_copied};
+    ghost use Rattle.form_shapes.specs.Declaration.{IsDeclaration, IsKnown};
     ghost use Rattle.form_shapes.specs.Source.{is_at, is_outside, mate_at, inside, start_at, end_at, text_at};
+
+    pub fn new(text: &'a [u8], tokens: &'a [Token]) -> Source<'a>
+        ensures text { result.text.now ≡ text.now }
+        ensures tokens { result.tokens.now ≡ tokens.now }
+    {
+        Source {
+            text,
+            tokens,
+            known: None,
+        }
+    }
+
+    /// With what is known of a declaration.
+    pub fn knowing(self, known: &'a Declaration<'a>) -> Source<'a>
+        requires { IsDeclaration self.text.now self.tokens.now known.now }
+        ensures text { result.text.now ≡ self.entry.text.now }
+        ensures tokens { result.tokens.now ≡ self.entry.tokens.now }
+    {
+        Source {
+            text: self.text,
+            tokens: self.tokens,
+            known: Some(known),
+        }
+    }
+
+    /// What is known of the declaration whose first name stands at a token.
+    pub(crate) fn known_at(self, at: usize) -> Option<&'a Declaration<'a>>
+        ensures at { IfSome result (λ known. known.now.at ≡ at) }
+        ensures right { IfSome result (λ known. IsDeclaration self.entry.text.now self.entry.tokens.now known.now) }
+    {
+        match self.known {
+            Some(known) if known.at == at => Some(known),
+            _ => None,
+        }
+    }
 
     pub fn token(self, at: usize) -> Option<Token>
         ensures { result ≡ slice_get self.entry.tokens.now at }

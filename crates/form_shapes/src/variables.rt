@@ -1,10 +1,10 @@
-ghost use Rattle.std.specs.Prelude.{◌≡◌, ◌≤◌, length, map, IfOk};
+ghost use Rattle.std.specs.Prelude.{◌≡◌, ◌≤◌, length};
 ghost use Rattle.std.specs.List.{list_all, slice_split};
 ghost use Rattle.std.specs.Str.{bytes_eq};
 ghost use Rattle.form_shapes.specs.Variables.{is_value_word, is_operator_word, is_step, begins_line_of, ends_line_of, begins_line, ends_line, ends_between, length_from, declaration, separates, begins_with_name};
 
 use crate::source::{has_sign, rest_from, text_of};
-use crate::{Sign, Source};
+use crate::{Declaration, Sign, Source};
 use es_tokens::{Token, TokenClass};
 use fault_place::NoMemory;
 use std::alloc::Global;
@@ -89,7 +89,7 @@ fn ends_between(text: &[u8], before: &Token, token: &Token) -> bool
 }
 
 #[tactic(auto, unfolding(crate::specs::Variables::separates))]
-fn separates(text: &[u8], token: &Token) -> bool
+pub(crate) fn separates(text: &[u8], token: &Token) -> bool
     ensures { result ≡ separates text.now token.now }
 {
     token.depth == 0 && has_sign(text, Sign::Comma, token)
@@ -113,7 +113,7 @@ fn length_behind(text: &[u8], first: &Token, tokens: &[Token]) -> usize
 }
 
 /// The tokens of a declaration whose first name is the first of these.
-fn declaration<'a>(text: &[u8], tokens: &'a [Token]) -> &'a [Token]
+pub(crate) fn declaration<'a>(text: &[u8], tokens: &'a [Token]) -> &'a [Token]
     ensures within { length result.now ≤ length tokens.now }
     ensures value { result.now ≡ declaration text.now tokens.now }
 {
@@ -140,30 +140,43 @@ fn are_named(text: &[u8], tokens: &[Token]) -> bool
         .all(|part| begins_with_name(text, part))
 }
 
-fn parts<'a>(alloc: Global, text: &[u8], tokens: &'a [Token]) -> Result<Vec<&'a [Token]>, NoMemory>
-    ensures { IfOk result (λ parts. map (λ part. part.now) parts.items ≡ slice_split (separates text.now) tokens.now) }
-{
-    tokens.split(|token| separates(text, token)).collect(alloc)
-}
-
 impl<'a> Source<'a> {
-    ghost use Rattle.std.specs.Prelude.{◌≡◌, ◌≤◌, map, length, IfOk};
-    ghost use Rattle.form_shapes.specs.Variables.{behind_variables, declarators};
+    ghost use Rattle.std.specs.Prelude.{◌≡◌, ◌<◌, map, length, IfOk};
+    ghost use Rattle.form_shapes.specs.Variables.{behind_variables, declarators, exports_variables, first_text};
 
-    /// The tokens of each declarator of a declaration whose first name is at a token.
-    pub fn declarators(self, alloc: Global, at: usize) -> Result<Vec<&'a [Token]>, NoMemory>
-        ensures { IfOk result
-            (λ parts. map (λ part. part.now) parts.items ≡ declarators self.entry.text.now self.entry.tokens.now at) }
+    /// Whether `export` with `var`, `let` or `const` stands at a token.
+    pub fn exports_variables(self, at: usize) -> bool
+        requires { at < length self.tokens.now }
+        ensures { result ≡ exports_variables self.entry.text.now self.entry.tokens.now at }
     {
-        parts(
-            alloc,
-            self.text,
-            declaration(self.text, rest_from(self.tokens, at)),
-        )
+        self.is_at(Sign::Export, at)
+            && (self.is_at(Sign::Var, at + 1)
+                || (self.is_at(Sign::Let, at + 1) || self.is_at(Sign::Const, at + 1)))
+    }
+
+    /// The names of the declarators of a declaration whose first name is at a token.
+    pub fn declared_names(self, alloc: Global, at: usize) -> Result<Vec<&'a [u8]>, NoMemory>
+        ensures { IfOk result
+            (λ names. map (λ name. name.now) names.items
+            ≡ map (first_text self.entry.text.now) (declarators self.entry.text.now self.entry.tokens.now at)) }
+    {
+        match self.known_at(at) {
+            Some(known) => known.names(alloc, self),
+            None => Declaration::read(alloc, self, at)?.names(alloc, self),
+        }
     }
 
     /// Behind declarators, each of which begins with a name.
     pub(crate) fn behind_variables(self, at: usize) -> Option<usize>
+        ensures { result ≡ behind_variables self.entry.text.now self.entry.tokens.now at }
+    {
+        match self.known_at(at) {
+            Some(known) => known.behind(self),
+            None => self.behind_unknown(at),
+        }
+    }
+
+    fn behind_unknown(self, at: usize) -> Option<usize>
         ensures { result ≡ behind_variables self.entry.text.now self.entry.tokens.now at }
     {
         let tokens = declaration(self.text, rest_from(self.tokens, at));

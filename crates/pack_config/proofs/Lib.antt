@@ -5,6 +5,7 @@ pub mod Kept
 pub mod Least
 pub mod Lifted
 pub mod Meaning
+pub mod Seen
 pub mod Totals
 pub mod Words
 pub mod Written

@@ -1,13 +1,14 @@
 -- Whole numbers, lists of words and members.
-use Rattle.std.proofs.Common.{◌≡◌, ℕ, ◌<◌, ◌^◌, Bool, true, false, cond, ◌&&◌, ◌||◌, eqb, leb, List, [], ◌∷◌, map, length, Some, None, refl, sym, ap, ◌∙◌, arith, Err}
+use Rattle.std.proofs.Common.{◌≡◌, ℕ, ◌<◌, ◌^◌, Bool, true, false, cond, ◌&&◌, ◌||◌, eqb, leb, List, [], ◌∷◌, ◌++◌, map, length, bytes_eq, Some, None, refl, sym, ap, ◌∙◌, arith, Err}
 use Rattle.std.specs.Char.{is_ascii_digit}
 use Rattle.std.specs.List.{list_any, list_all}
 use Rattle.std.specs.Str.{all_ascii_digits}
 use Rattle.std.specs.Str.Parse.{digits_value, ParsesUnsigned}
 use Rattle.std.proofs.lemmas.Bool.{eqb-true, lt-leb}
 use Rattle.std.proofs.lemmas.Bool.Decides.{nat_tests}
+use Rattle.std.proofs.lemmas.List.Folds.{list_any-append}
 use Rattle.std.proofs.lemmas.Str.Parse.{IsNumeralModel, numerals_by_value, parse_digits, tells_all_ascii_digits}
-use Rattle.pack_config.specs.Values.{is_whole, within, whole_in, magnitude_of}
+use Rattle.pack_config.specs.Values.{is_listed, is_whole, within, whole_in, magnitude_of}
 
 pub any_map : {X Y : Type 0} (p : Y → Bool) (f : X → Y) (xs : List X) → list_any p (map f xs) ≡ list_any (λ x. p (f x)) xs
 any_map p f [] = refl
@@ -54,3 +55,6 @@ not_read {E} low high (digit ∷ digits) e h whole fits =
     let none = parse_digits own {E = E} 32 (digit ∷ digits) (Err e) h whole in
     beyond low high (digits_value 10 (digit ∷ digits)) fits (λ small. none (omega arith, small))
     ∙ ap (λ b. within low high (cond b (Some (digits_value 10 (digit ∷ digits))) None)) (sym whole)
+
+pub listed_join : (one other : List (List ℕ)) (word : List ℕ) → is_listed (one ++ other) word ≡ (is_listed one word || is_listed other word)
+listed_join one other word = list_any-append (λ key. bytes_eq key word) one other

@@ -1,8 +1,10 @@
 pub mod Found
 pub mod Known
+pub mod Marks
 pub mod Optimization
 pub mod Output
 pub mod Own
 pub mod Parts
 pub mod Resolve
+pub mod Seen
 pub mod Stopped

@@ -21,12 +21,11 @@ use std::alloc::Global;
 pub(crate) fn entries(
     alloc: Global,
     found: &mut Found,
-    places: &mut Places,
+    places: &Places<'_>,
     value: Option<&JsonTree>,
 ) -> Result<Seq<EntrySpec>, NoMemory>
     ensures faults { OnOk result (found.new ≡ after found.old (where_given entry_rule (option_copied value.entry))) }
-    ensures value { IfOk result (λ all. all ≡ entries_of places.old (option_copied value.entry)) }
-    ensures places { places.new ≡ places.old }
+    ensures value { IfOk result (λ all. all ≡ entries_of places.now (option_copied value.entry)) }
 {
     let Some(tree) = value else {
         return default_entries(alloc)
@@ -66,13 +65,12 @@ fn one_entry(alloc: Global, files: Seq<EntryFile>) -> Result<Seq<EntrySpec>, NoM
 fn named_entries(
     alloc: Global,
     found: &mut Found,
-    places: &mut Places,
+    places: &Places<'_>,
     tree: &JsonTree,
     pairs: &[JsonPair],
 ) -> Result<Seq<EntrySpec>, NoMemory>
     ensures faults { OnOk result (found.new ≡ after found.old (empty_list pairs.now tree.now ++ flat_map named_rule pairs.now)) }
-    ensures value { IfOk result (λ all. all ≡ map (entry_of places.old) pairs.now) }
-    ensures places { places.new ≡ places.old }
+    ensures value { IfOk result (λ all. all ≡ map (entry_of places.now) pairs.now) }
 {
     if pairs.is_empty() {
         found.out_of_range(tree);
@@ -88,12 +86,11 @@ fn named_entries(
 fn named_entry(
     alloc: Global,
     found: &mut Found,
-    places: &mut Places,
+    places: &Places<'_>,
     pair: &JsonPair,
 ) -> Result<EntrySpec, NoMemory>
     ensures faults { OnOk result (found.new ≡ after found.old (named_rule pair.now)) }
-    ensures value { IfOk result (λ entry. entry ≡ entry_of places.old pair.now) }
-    ensures places { places.new ≡ places.old }
+    ensures value { IfOk result (λ entry. entry ≡ entry_of places.now pair.now) }
 {
     if !is_normal(pair.key.get()) {
         found.note(pair.key_at, ConfigKind::OutOfRange);
@@ -112,12 +109,11 @@ fn named_entry(
 fn files(
     alloc: Global,
     found: &mut Found,
-    places: &mut Places,
+    places: &Places<'_>,
     tree: &JsonTree,
 ) -> Result<Seq<EntryFile>, NoMemory>
     ensures faults { OnOk result (found.new ≡ after found.old (files_rule tree.now)) }
-    ensures value { IfOk result (λ all. all ≡ files_of places.old tree.now) }
-    ensures places { places.new ≡ places.old }
+    ensures value { IfOk result (λ all. all ≡ files_of places.now tree.now) }
 {
     match &tree.node {
         JsonNode::List(items) => listed_files(alloc, found, places, tree, items.as_slice()),
@@ -133,13 +129,12 @@ fn files(
 fn listed_files(
     alloc: Global,
     found: &mut Found,
-    places: &mut Places,
+    places: &Places<'_>,
     tree: &JsonTree,
     items: &[JsonTree],
 ) -> Result<Seq<EntryFile>, NoMemory>
     ensures faults { OnOk result (found.new ≡ after found.old (empty_list items.now tree.now ++ flat_map any_text items.now)) }
-    ensures value { IfOk result (λ all. all ≡ filter_map (file_of places.old) items.now) }
-    ensures places { places.new ≡ places.old }
+    ensures value { IfOk result (λ all. all ≡ filter_map (file_of places.now) items.now) }
 {
     if items.is_empty() {
         found.out_of_range(tree);
@@ -154,13 +149,12 @@ fn listed_files(
 fn push_file(
     alloc: Global,
     found: &mut Found,
-    places: &mut Places,
+    places: &Places<'_>,
     files: &mut Vec<EntryFile>,
     tree: &JsonTree,
 ) -> Result<(), NoMemory>
     ensures faults { OnOk result (found.new ≡ after found.old (any_text tree.now)) }
-    ensures value { OnOk result (files.new.items ≡ files.old.items ++ option_to_list (file_of places.old tree.now)) }
-    ensures places { places.new ≡ places.old }
+    ensures value { OnOk result (files.new.items ≡ files.old.items ++ option_to_list (file_of places.now tree.now)) }
 {
     if let Some(request) = text(found, Some(tree)) {
         files.push(EntryFile {

@@ -11,8 +11,8 @@ use crate::condition::{condition, nothing};
 use crate::found::Found;
 use crate::member::{text_of, truth_of, value_at};
 use crate::place::{FIRST, Places};
-use crate::shared::{Base, Limits, read_limits};
-use crate::value::{object, signed, truth};
+use crate::shared::{Base, Limits, limited_object, read_limits};
+use crate::value::{signed, truth};
 use fault_place::{NoMemory, Seq, Spot, Text};
 use graph_types::{CacheGroup, Condition};
 use json_order::JsonTree;
@@ -35,31 +35,18 @@ struct Own {
 pub(crate) fn group(
     alloc: Global,
     found: &mut Found,
-    places: &mut Places,
+    places: &Places<'_>,
     base: Base,
     key: &Text,
     tree: &JsonTree,
 ) -> Result<CacheGroup, NoMemory>
     ensures faults { OnOk result (found.new ≡ after found.old (group_rule tree.now)) }
-    ensures value { IfOk result (λ group. group ≡ group_with places.old (if is_enforced tree.now then enforced base else base) (limits_of (Some tree.now)) key.now tree.now) }
-    ensures places { places.new ≡ places.old }
+    ensures value { IfOk result (λ group. group ≡ group_with places.now (if is_enforced tree.now then enforced base else base) (limits_of (Some tree.now)) key.now tree.now) }
 {
-    object(
+    limited_object(
         found,
         tree,
-        &[
-            "chunks",
-            "minSize",
-            "minChunks",
-            "maxAsyncRequests",
-            "maxInitialRequests",
-            "enforceSizeThreshold",
-            "name",
-            "test",
-            "enforce",
-            "reuseExistingChunk",
-            "priority",
-        ],
+        &["test", "enforce", "reuseExistingChunk", "priority"],
     );
     let limits = read_limits(found, Some(tree));
     let own = read_own(alloc, found, places, tree)?;
@@ -70,12 +57,11 @@ pub(crate) fn group(
 fn read_own(
     alloc: Global,
     found: &mut Found,
-    places: &mut Places,
+    places: &Places<'_>,
     tree: &JsonTree,
 ) -> Result<Own, NoMemory>
     ensures faults { OnOk result (found.new ≡ after found.old (own_rule tree.now)) }
-    ensures value { IfOk result (λ own. own ≡ own_of places.old tree.now) }
-    ensures places { places.new ≡ places.old }
+    ensures value { IfOk result (λ own. own ≡ own_of places.now tree.now) }
 {
     let (name, name_at) = name(alloc, found, places, value_at("name", Some(tree)))?;
     Ok(Own {
@@ -134,12 +120,11 @@ fn test(alloc: Global, found: &mut Found, value: Option<&JsonTree>) -> Result<Co
 fn name(
     alloc: Global,
     found: &mut Found,
-    places: &mut Places,
+    places: &Places<'_>,
     value: Option<&JsonTree>,
 ) -> Result<(Option<Text>, Spot), NoMemory>
     ensures faults { OnOk result (found.new ≡ after found.old (where_given name_rule (option_copied value.entry))) }
-    ensures value { IfOk result (λ name. name ≡ (text_value (option_copied value.entry), name_spot places.old (text_value (option_copied value.entry)) (option_copied value.entry))) }
-    ensures places { places.new ≡ places.old }
+    ensures value { IfOk result (λ name. name ≡ (text_value (option_copied value.entry), name_spot places.now (text_value (option_copied value.entry)) (option_copied value.entry))) }
 {
     let Some(tree) = value else {
         return Ok((None, FIRST))

@@ -17,6 +17,7 @@ mod number;
 mod output;
 mod place;
 mod reading;
+mod repeated;
 mod resolve;
 mod shared;
 mod split;

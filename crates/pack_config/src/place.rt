@@ -1,26 +1,31 @@
 //! Places in the text of the configuration.
-ghost use Rattle.std.specs.Prelude.{◌≡◌, ◌≤◌, ◌<◌, ◌+◌, ◌-◌, ◌^◌};
+ghost use Rattle.std.specs.Prelude.{◌≡◌, ◌≤◌, ◌<◌, ◌+◌, ◌-◌, ◌*◌, ◌^◌, All, IfOk};
 ghost use Rattle.fault_place.specs.Place.{spot_at};
+ghost use Rattle.pack_config.specs.inner.Marks.{IsMark};
 
-use fault_place::Spot;
+use fault_place::{NoMemory, Spot};
+use std::alloc::Global;
 use std::marker::Model;
 
-/// A text, and the last place in it that was asked for: the next is mostly behind it.
+/// How many bytes lie between two marks.
+const STRIDE: u64 = 256;
+
+/// A text with marks, places of it that are known, so that places are found soon in any order.
 #[derive(Drop)]
 pub(crate) struct Places<'a> {
     text: &'a [u8],
-    last: Spot,
+    marks: Vec<Spot>,
 }
 
 impl<'a> Model for Places<'a> {
-    ghost use Rattle.std.specs.Prelude.{◌≡◌, ◌≤◌, ℕ, List, length};
-    ghost use Rattle.fault_place.specs.Place.{spot_at};
+    ghost use Rattle.std.specs.Prelude.{ℕ, List, All};
+    ghost use Rattle.pack_config.specs.inner.Marks.{IsMark};
 
     ghost Value = { List ℕ };
 
     ghost view = { λ places. places.text.now };
 
-    ghost invariant = { λ places. (places.last ≡ spot_at places.text.now places.last.offset) × (places.last.offset ≤ length places.text.now) };
+    ghost invariant = { λ places. All (IsMark places.text.now) places.marks.items };
 }
 
 /// The first place of every text.
@@ -31,33 +36,52 @@ pub(crate) const FIRST: Spot = Spot {
 };
 
 impl<'a> Places<'a> {
-    pub(crate) fn new(text: &'a [u8]) -> Places<'a>
-        ensures { result ≡ text.now }
+    pub(crate) fn new(alloc: Global, text: &'a [u8]) -> Result<Places<'a>, NoMemory>
+        ensures { IfOk result (λ places. places ≡ text.now) }
     {
-        Places { text, last: FIRST }
+        Ok(Places {
+            text,
+            marks: marks(alloc, text)?,
+        })
     }
 
     /// The place of an offset in the text.
-    pub(crate) fn spot(&mut self, offset: u64) -> Spot
-        ensures place { result ≡ spot_at self.old offset }
-        ensures text { self.new ≡ self.old }
+    pub(crate) fn spot(&self, offset: u64) -> Spot
+        ensures { result ≡ spot_at self.now offset }
     {
-        let start = if offset < self.last.offset {
-            FIRST
-        } else {
-            self.last
-        };
-        let spot = spot_after(self.text, start, offset);
-        if spot.offset <= self.text.len() as u64 {
-            self.last = spot;
-        }
-        spot
+        let mark = mark_before(self.text, &self.marks, offset);
+        spot_after(self.text, mark, offset)
+    }
+}
+
+/// The places at all multiples of the stride.
+fn marks(alloc: Global, text: &[u8]) -> Result<Vec<Spot>, NoMemory>
+    ensures { IfOk result (λ marks. All (IsMark text.now) marks.items) }
+{
+    let mut marks = Vec::new(alloc);
+    let mut spot = FIRST;
+    for number in 0..text.len() as u64 / STRIDE + 1 {
+        marks.push(spot)?;
+        spot = spot_after(text, spot, (number + 1) * STRIDE);
+    }
+    Ok(marks)
+}
+
+/// A place that isn't behind an offset: the last mark that is so, where there is one.
+fn mark_before(text: &[u8], marks: &[Spot], offset: u64) -> Spot
+    requires { All (IsMark text.now) marks.now }
+    ensures mark { IsMark text.now result }
+    ensures before { result.offset ≤ offset }
+{
+    match marks.get((offset / STRIDE) as usize) {
+        Some(mark) if mark.offset <= offset => *mark,
+        _ => FIRST,
     }
 }
 
 /// The place of an offset, which isn't before a place that is known.
 fn spot_after(text: &[u8], start: Spot, offset: u64) -> Spot
-    requires start { start ≡ spot_at text.now start.offset }
+    requires start { IsMark text.now start }
     requires before { start.offset ≤ offset }
     ensures { result ≡ spot_at text.now offset }
 {
@@ -69,7 +93,7 @@ fn spot_after(text: &[u8], start: Spot, offset: u64) -> Spot
 }
 
 fn next_spot(text: &[u8], spot: Spot) -> Spot
-    requires spot { spot ≡ spot_at text.now spot.offset }
+    requires spot { IsMark text.now spot }
     requires end { spot.offset < 2 ^ 64 - 1 }
     ensures { result ≡ spot_at text.now (spot.offset + 1) }
 {

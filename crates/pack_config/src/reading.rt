@@ -123,16 +123,11 @@ fn read_parts(
     );
     one_of(found, value_at("target", root), &["web"]);
     only_false(found, value_at("devtool", root));
-    let mut places = Places::new(text);
-    let entries = entries(alloc, found, &mut places, value_at("entry", root))?;
+    let places = Places::new(alloc, text)?;
+    let entries = entries(alloc, found, &places, value_at("entry", root))?;
     let output = read_output(alloc, found, value_at("output", root))?;
     let resolve = read_resolve(alloc, found, value_at("resolve", root))?;
-    let optimization = read_optimization(
-        alloc,
-        found,
-        &mut places,
-        value_at("optimization", root),
-    )?;
+    let optimization = read_optimization(alloc, found, &places, value_at("optimization", root))?;
     Ok(Parts {
         entries,
         output,
@@ -153,12 +148,11 @@ struct Optimization {
 fn read_optimization(
     alloc: Global,
     found: &mut Found,
-    places: &mut Places,
+    places: &Places<'_>,
     value: Option<&JsonTree>,
 ) -> Result<Optimization, NoMemory>
     ensures faults { OnOk result (found.new ≡ after found.old (optimization_rule (option_copied value.entry))) }
-    ensures value { IfOk result (λ optimization. optimization ≡ optimization_of places.old (option_copied value.entry)) }
-    ensures places { places.new ≡ places.old }
+    ensures value { IfOk result (λ optimization. optimization ≡ optimization_of places.now (option_copied value.entry)) }
 {
     if let Some(tree) = value {
         object(

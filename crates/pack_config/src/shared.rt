@@ -1,12 +1,13 @@
 //! What `splitChunks` and each of its cache groups may say.
-ghost use Rattle.std.specs.Prelude.{◌≡◌, option_and_then};
+ghost use Rattle.std.specs.Prelude.{◌≡◌, ◌++◌, map, option_and_then};
 ghost use Rattle.std.specs.Option.{option_copied};
-ghost use Rattle.pack_config.specs.Splits.{limits_of, limits_rule, select_in};
+ghost use Rattle.pack_config.specs.Splits.{limit_keys, limits_of, limits_rule, select_in};
+ghost use Rattle.pack_config.specs.Values.{object_with};
 ghost use Rattle.pack_config.specs.inner.Found.{after};
 
 use crate::found::Found;
 use crate::member::value_at;
-use crate::value::{one_of, whole};
+use crate::value::{object_with_own, one_of, whole};
 use graph_types::Select;
 use json_order::JsonTree;
 
@@ -19,6 +20,22 @@ pub(crate) struct Limits {
     pub(crate) max_async: Option<u32>,
     pub(crate) max_initial: Option<u32>,
     pub(crate) threshold: Option<u32>,
+}
+
+/// An object that may have limits, and these keys.
+pub(crate) fn limited_object(found: &mut Found, tree: &JsonTree, own: &[&str])
+    ensures { found.new ≡ after found.old (object_with (limit_keys ++ map (λ key. key.now) own.now) tree.now) }
+{
+    let shared = [
+        "chunks",
+        "minSize",
+        "minChunks",
+        "maxAsyncRequests",
+        "maxInitialRequests",
+        "enforceSizeThreshold",
+        "name",
+    ];
+    object_with_own(found, tree, &shared, own)
 }
 
 #[tactic(auto, using(crate::proofs::After::after_more))]

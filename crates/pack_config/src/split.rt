@@ -2,17 +2,17 @@
 ghost use Rattle.std.specs.Prelude.{◌≡◌, ◌++◌, ◌∷◌, [], Some, not, map, length, nat_le, flat_map, bytes_eq, IfOk, OnOk, if◌then◌else◌};
 ghost use Rattle.std.specs.List.{filter, list_any};
 ghost use Rattle.std.specs.Option.{option_copied};
-ghost use Rattle.pack_config.specs.Splits.{default_group, group_limit, group_of, groups_in, groups_of, groups_with, groups_rule, is_group, member_rule, missing_keys, has_name, is_text, name_value, repeated_by, repeated_in, split_of, split_rule};
-ghost use Rattle.pack_config.specs.Values.{out_of_range, text_of, where_given};
+ghost use Rattle.pack_config.specs.Splits.{default_group, group_limit, group_of, groups_in, groups_of, groups_with, groups_rule, is_group, member_rule, missing_keys, split_of, split_rule};
+ghost use Rattle.pack_config.specs.Values.{out_of_range, where_given};
 ghost use Rattle.pack_config.specs.inner.Found.{after};
 
-use crate::ConfigKind;
 use crate::found::Found;
 use crate::group::{default_group, group};
-use crate::member::{has_key, pairs_of, text_of, truth_of, value_at};
+use crate::member::{has_key, pairs_of, truth_of, value_at};
 use crate::place::Places;
-use crate::shared::{Base, read_limits};
-use crate::value::{object, only_false};
+use crate::repeated::note_repeated;
+use crate::shared::{Base, limited_object, read_limits};
+use crate::value::only_false;
 use fault_place::{NoMemory, Seq};
 use graph_types::CacheGroup;
 use json_order::{JsonPair, JsonTree};
@@ -25,12 +25,11 @@ const GROUP_LIMIT: usize = 16;
 pub(crate) fn split_chunks(
     alloc: Global,
     found: &mut Found,
-    places: &mut Places,
+    places: &Places<'_>,
     value: Option<&JsonTree>,
 ) -> Result<Seq<CacheGroup>, NoMemory>
     ensures faults { OnOk result (found.new ≡ after found.old (where_given split_rule (option_copied value.entry))) }
-    ensures value { IfOk result (λ groups. groups ≡ split_of places.old (option_copied value.entry)) }
-    ensures places { places.new ≡ places.old }
+    ensures value { IfOk result (λ groups. groups ≡ split_of places.now (option_copied value.entry)) }
 {
     if let Some(tree) = value {
         if let Some(truth) = truth_of(tree) {
@@ -39,20 +38,7 @@ pub(crate) fn split_chunks(
             }
             return Ok(Seq::new(alloc));
         }
-        object(
-            found,
-            tree,
-            &[
-                "chunks",
-                "minSize",
-                "minChunks",
-                "maxAsyncRequests",
-                "maxInitialRequests",
-                "enforceSizeThreshold",
-                "name",
-                "cacheGroups",
-            ],
-        );
+        limited_object(found, tree, &["cacheGroups"]);
     }
     only_false(found, value_at("name", value));
     let base = Base::new(read_limits(found, value));
@@ -63,13 +49,12 @@ pub(crate) fn split_chunks(
 fn cache_groups(
     alloc: Global,
     found: &mut Found,
-    places: &mut Places,
+    places: &Places<'_>,
     base: Base,
     value: Option<&JsonTree>,
 ) -> Result<Seq<CacheGroup>, NoMemory>
     ensures faults { OnOk result (found.new ≡ after found.old (where_given groups_rule (option_copied value.entry))) }
-    ensures value { IfOk result (λ groups. groups ≡ groups_of places.old base (option_copied value.entry)) }
-    ensures places { places.new ≡ places.old }
+    ensures value { IfOk result (λ groups. groups ≡ groups_of places.now base (option_copied value.entry)) }
 {
     let Some(tree) = value else {
         let mut groups = Vec::new(alloc);
@@ -87,19 +72,18 @@ fn cache_groups(
 fn all_groups(
     alloc: Global,
     found: &mut Found,
-    places: &mut Places,
+    places: &Places<'_>,
     base: Base,
     tree: &JsonTree,
     pairs: &[JsonPair],
 ) -> Result<Seq<CacheGroup>, NoMemory>
     ensures faults { OnOk result (found.new ≡ after found.old (groups_in (Some pairs.now) tree.now)) }
-    ensures value { IfOk result (λ groups. groups ≡ groups_with places.old base pairs.now) }
-    ensures places { places.new ≡ places.old }
+    ensures value { IfOk result (λ groups. groups ≡ groups_with places.now base pairs.now) }
 {
     let mut groups = given_groups(alloc, found, places, base, pairs)?;
     add_defaults(alloc, &mut groups, base, pairs)?;
     note_count(found, &groups, tree);
-    note_repeated(found, pairs);
+    note_repeated(alloc, found, pairs)?;
     Ok(Seq::from_vec(groups))
 }
 
@@ -115,13 +99,12 @@ fn note_count(found: &mut Found, groups: &[CacheGroup], tree: &JsonTree)
 fn given_groups(
     alloc: Global,
     found: &mut Found,
-    places: &mut Places,
+    places: &Places<'_>,
     base: Base,
     pairs: &[JsonPair],
 ) -> Result<Vec<CacheGroup>, NoMemory>
     ensures faults { OnOk result (found.new ≡ after found.old (flat_map member_rule pairs.now)) }
-    ensures value { IfOk result (λ groups. groups.items ≡ map (group_of places.old base) (filter is_group pairs.now)) }
-    ensures places { places.new ≡ places.old }
+    ensures value { IfOk result (λ groups. groups.items ≡ map (group_of places.now base) (filter is_group pairs.now)) }
 {
     let mut groups = Vec::new(alloc);
     for pair in pairs {
@@ -133,14 +116,13 @@ fn given_groups(
 fn push_group(
     alloc: Global,
     found: &mut Found,
-    places: &mut Places,
+    places: &Places<'_>,
     base: Base,
     groups: &mut Vec<CacheGroup>,
     pair: &JsonPair,
 ) -> Result<(), NoMemory>
     ensures faults { OnOk result (found.new ≡ after found.old (member_rule pair.now)) }
-    ensures value { OnOk result (groups.new.items ≡ groups.old.items ++ map (group_of places.old base) (filter is_group (pair.now ∷ []))) }
-    ensures places { places.new ≡ places.old }
+    ensures value { OnOk result (groups.new.items ≡ groups.old.items ++ map (group_of places.now base) (filter is_group (pair.now ∷ []))) }
 {
     if pairs_of(&pair.value).is_none() {
         only_false(found, Some(&pair.value));
@@ -176,52 +158,4 @@ fn add_default(
         groups.push(default_group(alloc, base, key)?)?;
     }
     Ok(())
-}
-
-/// Notes each name that a group before has.
-#[tactic(auto, using(crate::proofs::After::each_all))]
-fn note_repeated(found: &mut Found, pairs: &[JsonPair])
-    ensures { found.new ≡ after found.old (repeated_in pairs.now) }
-{
-    for (place, pair) in pairs.iter().enumerate() {
-        note_name(found, &pairs[..place], pair);
-    }
-}
-
-fn note_name(found: &mut Found, earlier: &[JsonPair], pair: &JsonPair)
-    ensures { found.new ≡ after found.old (repeated_by earlier.now (name_value pair.now)) }
-{
-    let Some(tree) = value_at("name", Some(&pair.value)) else {
-        return;
-    };
-    let Some(name) = text_of(tree) else {
-        return;
-    };
-    if is_taken(earlier, name) {
-        found.note(tree.at, ConfigKind::Repeated);
-    }
-}
-
-fn is_taken(pairs: &[JsonPair], name: &str) -> bool
-    ensures { result ≡ list_any (has_name name.now) pairs.now }
-{
-    pairs.iter().any(|pair| has_name(pair, name))
-}
-
-fn has_name(pair: &JsonPair, name: &str) -> bool
-    ensures { result ≡ has_name name.now pair.now }
-{
-    match value_at("name", Some(&pair.value)) {
-        Some(tree) => is_text(tree, name),
-        None => false,
-    }
-}
-
-fn is_text(tree: &JsonTree, name: &str) -> bool
-    ensures { result ≡ is_text name.now (text_of tree.now) }
-{
-    match text_of(tree) {
-        Some(text) => text == name,
-        None => false,
-    }
 }

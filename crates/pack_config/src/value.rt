@@ -1,7 +1,7 @@
 //! One call for each kind of value that a key wants: it notes the faults of a value, and answers what the value is.
 ghost use Rattle.std.specs.Prelude.{◌≡◌, ◌≤◌, ◌++◌, map, flat_map, filter_map, option_to_list, None, IsTrue, IfOk, OnOk, MatchOption};
 ghost use Rattle.std.specs.Option.{option_copied};
-ghost use Rattle.pack_config.specs.Values.{any_text, any_truth, each_of, keys_in, object_with, one_of, only_false, signed, signed_value, text_of, text_value, texts, texts_value, truth_value, is_whole, unknown_key, where_given, whole, whole_in, whole_of, whole_value};
+ghost use Rattle.pack_config.specs.Values.{any_text, any_truth, each_of, is_listed, keys_in, object_with, one_of, only_false, signed, signed_value, text_of, text_value, texts, texts_value, truth_value, is_whole, unknown_key, where_given, whole, whole_in, whole_of, whole_value};
 ghost use Rattle.pack_config.specs.inner.Found.{after};
 
 use crate::ConfigKind;
@@ -164,27 +164,41 @@ fn all_of(alloc: Global, words: &[&str]) -> Result<Seq<Text>, NoMemory>
 pub(crate) fn object(found: &mut Found, tree: &JsonTree, keys: &[&str])
     ensures { found.new ≡ after found.old (object_with (map (λ key. key.now) keys.now) tree.now) }
 {
+    object_with_own(found, tree, keys, &[])
+}
+
+/// An object that has no other keys than those that several kinds share, and its own.
+pub(crate) fn object_with_own(found: &mut Found, tree: &JsonTree, shared: &[&str], own: &[&str])
+    ensures { found.new ≡ after found.old (object_with (map (λ key. key.now) shared.now ++ map (λ key. key.now) own.now) tree.now) }
+{
     match pairs_of(tree) {
-        Some(pairs) => note_unknown(found, pairs, keys),
+        Some(pairs) => note_unknown(found, pairs, shared, own),
         None => found.wrong_type(tree),
     }
 }
 
 #[tactic(auto, using(crate::proofs::After::each_all))]
-fn note_unknown(found: &mut Found, pairs: &[JsonPair], keys: &[&str])
-    ensures { found.new ≡ after found.old (flat_map (unknown_key (map (λ key. key.now) keys.now)) pairs.now) }
+fn note_unknown(found: &mut Found, pairs: &[JsonPair], shared: &[&str], own: &[&str])
+    ensures { found.new ≡ after found.old (flat_map (unknown_key (map (λ key. key.now) shared.now ++ map (λ key. key.now) own.now)) pairs.now) }
 {
     for pair in pairs {
-        note_key(found, pair, keys);
+        note_key(found, pair, shared, own);
     }
 }
 
-fn note_key(found: &mut Found, pair: &JsonPair, keys: &[&str])
-    ensures { found.new ≡ after found.old (unknown_key (map (λ key. key.now) keys.now) pair.now) }
+fn note_key(found: &mut Found, pair: &JsonPair, shared: &[&str], own: &[&str])
+    ensures { found.new ≡ after found.old (unknown_key (map (λ key. key.now) shared.now ++ map (λ key. key.now) own.now) pair.now) }
 {
-    if !is_listed(keys, pair.key.get()) {
+    if !is_known(shared, own, pair.key.get()) {
         found.note(pair.key_at, ConfigKind::UnknownKey);
     }
+}
+
+#[tactic(auto, using(crate::proofs::Words::listed_join))]
+fn is_known(shared: &[&str], own: &[&str], key: &str) -> bool
+    ensures { result ≡ is_listed (map (λ key. key.now) shared.now ++ map (λ key. key.now) own.now) key.now }
+{
+    is_listed(shared, key) || is_listed(own, key)
 }
 
 /// The digits of a whole number.

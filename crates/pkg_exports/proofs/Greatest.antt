@@ -1,9 +1,9 @@
 -- One walk over some members finds the first that none of them beats.
-use Rattle.std.proofs.Common.{◌≡◌, ℕ, Bool, true, false, not, ◌&&◌, ◌||◌, cond, eqb, ltb, List, [], ◌∷◌, Option, Some, None, length, refl, sym, ap, ◌∙◌, arith}
+use Rattle.std.proofs.Common.{◌≡◌, ◌↔◌, ℕ, Bool, true, false, not, ◌&&◌, ◌||◌, cond, eqb, ltb, List, [], ◌∷◌, Option, Some, None, length, refl, sym, ap, ◌∙◌, arith}
 use Rattle.std.specs.List.{find, fold, list_any}
 use Rattle.std.proofs.lemmas.Bool.Decides.{nat_tests}
 use Rattle.json_order.specs.declared.tree.JsonPair.{JsonPair}
-use Rattle.pkg_exports.specs.Steps.{better_of, greater_of}
+use Rattle.pkg_exports.specs.inner.Steps.{better_of, greater_of}
 use Rattle.pkg_exports.specs.Exports.{greatest, matches_of}
 use Rattle.pkg_exports.specs.Keys.{is_match, length_before, outranks}
 
@@ -128,3 +128,8 @@ reduced_greatest (pair ∷ rest) = fold_top pair_beats pair_ranks pair rest
 
 pub fold_greatest : (subpath : List ℕ) (pairs : List JsonPair) → fold (better_of subpath) None pairs ≡ greatest (matches_of subpath pairs)
 fold_greatest subpath pairs = fold_matches subpath None pairs ∙ reduced_greatest (matches_of subpath pairs)
+
+-- a member is taken where there is one
+pub none_taken : (pairs : List JsonPair) → (greatest pairs ≡ None) ↔ (pairs ≡ [])
+none_taken [] = (λ e. refl, λ e. refl)
+none_taken (pair ∷ rest) = (λ e. let taken = reduced_greatest (pair ∷ rest) in cc, λ e. cc)

@@ -1,13 +1,13 @@
 -- A key that matches a subpath is told by how long it is and how long its part before `*`.
-use Rattle.std.proofs.Common.{◌≡◌, ℕ, suc, ◌-◌, ◌<◌, Bool, true, false, not, ◌&&◌, ◌||◌, cond, eqb, ltb, leb, List, ◌∷◌, ◌++◌, length, take, drop, get_or, count_by, Some, None, refl, sym, ap, ◌∙◌, inl, inr, arith, add-one, drop-cons}
+use Rattle.std.proofs.Common.{◌≡◌, ℕ, suc, ◌+◌, ◌-◌, ◌<◌, ◌≤◌, Bool, true, false, not, ◌&&◌, ◌||◌, cond, eqb, ltb, leb, List, ◌∷◌, ◌++◌, length, take, drop, get_or, count_by, Some, None, refl, sym, ap, ◌∙◌, inl, inr, arith, add-one, drop-cons, drop-drop}
 use Rattle.std.specs.List.{ends_with, position_or_len, starts_with}
 use Rattle.std.specs.Str.{bytes_eq}
 use Rattle.std.proofs.lemmas.Bool.Decides.{eqb_tells, leb_tells, nat_tests}
-use Rattle.std.proofs.lemmas.List.{length-take, take-append-drop}
+use Rattle.std.proofs.lemmas.List.{length-drop, length-take, take-append-drop}
 use Rattle.std.proofs.lemmas.List.Quantifiers.{position-Some}
 use Rattle.std.proofs.lemmas.List.Sums.{prefix_len-le-length}
 use Rattle.std.proofs.lemmas.Slice.Eq.{bytes_eq-Decides}
-use Rattle.pkg_exports.specs.Keys.{is_match, is_star, length_before, outranks, part_after, part_before}
+use Rattle.pkg_exports.specs.Keys.{is_match, is_star, length_before, matched_part, outranks, part_after, part_before}
 use Rattle.pkg_exports.proofs.Stars.{lengths, placed}
 
 both : (a b : Bool) → (a && b) ≡ true → (a ≡ true) × (b ≡ true)
@@ -25,6 +25,7 @@ record Parts (subpath key : List ℕ) : Type 0 where
   one : count_by is_star key ≡ 1
   front : part_before key ≡ take (length (part_before key)) subpath
   end : part_after key ≡ drop (length subpath - length (part_after key)) subpath
+  long : length key ≤ length subpath
 
 parts : (subpath key : List ℕ) → is_match subpath key ≡ true → Parts subpath key
 parts subpath key e =
@@ -36,6 +37,7 @@ parts subpath key e =
       one = equal (count_by is_star key) 1 starts.0;
       front = (bytes_eq-Decides (part_before key) (take (length (part_before key)) subpath)).0 starts.1;
       end = (bytes_eq-Decides (part_after key) (drop (length subpath - length (part_after key)) subpath)).0 ends.1;
+      long = elim (leb_tells (length key) (length subpath)) [ inl w ↦ w.1 | inr w ↦ cc ];
     }
 
 placed_test : (place len : ℕ) → place < len → cond (ltb place len) (Some place) None ≡ Some place
@@ -66,3 +68,19 @@ ranked subpath key other m n h k =
     ∙ ap (λ front. front ++ (42 ∷ part_after key)) (one.front ∙ ap (λ i. take i subpath) before ∙ sym two.front)
     ∙ ap (λ end. part_before other ++ (42 ∷ end)) (one.end ∙ ap (λ n. drop (length subpath - n) subpath) after ∙ sym two.end)
     ∙ sym (whole other at_two)
+
+-- what stands between the parts of a key that matches
+pub cut : (subpath key : List ℕ) → is_match subpath key ≡ true → (subpath ≡ part_before key ++ (matched_part subpath key ++ part_after key)) × (1 ≤ length (matched_part subpath key))
+cut subpath key e =
+    let p = parts subpath key e in
+    let sum = lengths key (placed is_star key p.one) in
+    let long = p.long in
+    let b = length (part_before key) in
+    let n = length subpath - length (part_after key) - b in
+    let behind : b + n ≡ length subpath - length (part_after key) = omega (arith, sum, long) in (
+      sym (take-append-drop b subpath)
+          ∙ ap (λ rest. take b subpath ++ rest) (sym (take-append-drop n (drop b subpath)))
+          ∙ ap (λ rest. take b subpath ++ (take n (drop b subpath) ++ rest)) (drop-drop n b subpath ∙ ap (λ i. drop i subpath) behind ∙ sym p.end)
+          ∙ ap (λ front. front ++ (take n (drop b subpath) ++ part_after key)) (sym p.front),
+      omega (arith, length-take n (drop b subpath), length-drop b subpath, sum, long),
+    )

@@ -12,7 +12,7 @@ use Rattle.json_order.specs.declared.tree.JsonNode.TheFolds.{fold_out-JsonTree, 
 use Rattle.json_order.specs.declared.tree.JsonNode.TheViews.{the_lemmas}
 use Rattle.pkg_exports.specs.declared.outcome.Outcome.{Outcome}
 use Rattle.pkg_exports.specs.declared.outcome.Outcome.TheVariants.{Undefined, Null, BadKey}
-use Rattle.pkg_exports.specs.Steps.{later_of}
+use Rattle.pkg_exports.specs.inner.Steps.{later_of}
 use Rattle.pkg_exports.specs.Keys.{is_array_index, is_met}
 use Rattle.pkg_exports.specs.Targets.{ends_list, is_defined, is_null_or_bad, list_outcome, node_outcome, object_outcome, outcome_of}
 

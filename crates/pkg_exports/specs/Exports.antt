@@ -51,6 +51,7 @@ abbrev pub key_outcome : List ℕ → List (List ℕ) → List JsonPair → Opti
 key_outcome subpath conditions pairs (Some pair) = outcome_of (codes "*") conditions pair.value
 key_outcome subpath conditions pairs None = pattern_outcome subpath conditions (greatest (matches_of subpath pairs))
 
+-- a subpath that ends with a slash isn't exported (this project)
 abbrev pub map_outcome : List ℕ → List (List ℕ) → List JsonPair → Outcome
 map_outcome subpath conditions pairs =
     if ends_with nat_eq subpath (codes "/") then Undefined

@@ -43,7 +43,7 @@ matched_part subpath key = slice_range subpath (length (part_before key)) (lengt
 abbrev pub length_before : List ℕ → ℕ
 length_before key = position_or_len is_star key
 
--- a key is tried before another: its part before `*` is longer, or as long where the key is longer
+-- a key is tried before another (this project): its part before `*` is longer, or as long where the key is longer
 abbrev pub outranks : List ℕ → List ℕ → Bool
 outranks key other = nat_lt (length_before other) (length_before key)
     || (length_before key == length_before other && nat_lt (length other) (length key))

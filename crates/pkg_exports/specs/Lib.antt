@@ -1,5 +1,5 @@
 pub mod Exports
+pub mod inner
 pub mod Keys
 pub mod Segments
-pub mod Steps
 pub mod Targets

@@ -12,6 +12,7 @@ abbrev pub is_refused_segment : List ℕ → Bool
 is_refused_segment segment = bytes_eq segment (codes ".") || bytes_eq segment (codes "..")
     || bytes_eq (map to_ascii_lowercase segment) (codes "node_modules")
 
--- whether some segment of a text is one of them; the text is split at `/` alone (this project)
+-- whether some segment of a text is one of them; the text is split at `/` alone, and a segment may be
+-- empty (this project)
 abbrev pub has_refused_segment : List ℕ → Bool
 has_refused_segment text = list_any is_refused_segment (slice_split is_slash text)

@@ -1,7 +1,7 @@
 ghost use Rattle.std.specs.Prelude.{◌≡◌, option_map};
 ghost use Rattle.std.specs.Option.{option_copied};
 ghost use Rattle.pkg_exports.specs.Exports.{greatest, matches_of};
-ghost use Rattle.pkg_exports.specs.Steps.{better_of};
+ghost use Rattle.pkg_exports.specs.inner.Steps.{better_of};
 
 use crate::star::{matched_part, outranks};
 use json_order::JsonPair;

@@ -10,7 +10,8 @@ pub enum ExportsEnd {
     Mixed,
     /// A key of an object of conditions is an array index.
     BadKey,
-    /// A target is a number, a truth value or a text that leads out of the package.
+    /// A target is a number, a truth value, or a text that isn't allowed as one: `./` doesn't begin it, it has `%` or `\`, or a
+    /// segment of it is `.`, `..` or `node_modules`.
     BadTarget,
     NoMemory,
 }

@@ -1,5 +1,5 @@
 ghost use Rattle.std.specs.Prelude.{◌≡◌};
-ghost use Rattle.pkg_exports.specs.Steps.{later_of};
+ghost use Rattle.pkg_exports.specs.inner.Steps.{later_of};
 
 use fault_place::Text;
 

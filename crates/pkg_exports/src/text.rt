@@ -5,8 +5,8 @@ ghost use Rattle.pkg_exports.specs.Targets.{filled, is_allowed, is_forbidden, te
 
 use crate::outcome::Outcome;
 use crate::segment::has_refused_segment;
-use fault_place::{NoMemory, Text};
-use std::alloc::Global;
+use fault_place::{MAX_TEXT, NoMemory, Text};
+use std::alloc::{AllocError, Global};
 
 fn has_forbidden(text: &str) -> bool
     ensures { result ≡ list_any is_forbidden text.now }
@@ -36,13 +36,23 @@ fn filled(alloc: Global, text: &str, star: &str) -> Result<Text, NoMemory>
     Ok(Text::from_string(pieces.join(alloc, star)?))
 }
 
+/// Whether a text of many `*` would become longer than any text may be.
+fn becomes_too_long(text: &str, star: &str) -> bool {
+    let stars = text.bytes().filter(|byte| *byte == b'*').count() as u64;
+    let kept = (text.len() as u64).saturating_sub(stars);
+    kept.saturating_add(stars.saturating_mul(star.len() as u64)) > MAX_TEXT
+}
+
 /// What a text is as a target, where each `*` becomes `star`.
 pub fn text_outcome(alloc: Global, text: &str, star: &str) -> Result<Outcome, NoMemory>
     ensures { IfOk result (λ outcome. outcome ≡ text_outcome star.now text.now) }
 {
-    if is_allowed(text) {
-        Ok(Outcome::Target(filled(alloc, text, star)?))
-    } else {
-        Ok(Outcome::BadTarget)
+    if !is_allowed(text) {
+        return Ok(Outcome::BadTarget);
     }
+    // A manifest could ask for gigabytes.
+    if becomes_too_long(text, star) {
+        return Err(AllocError);
+    }
+    Ok(Outcome::Target(filled(alloc, text, star)?))
 }

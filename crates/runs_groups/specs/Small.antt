@@ -1,10 +1,27 @@
--- The records of a small graph: the file of each is its place, and there are few of them with few items each.
-use Rattle.std.specs.Prelude.{◌≡◌, ℕ, ◌<◌, ◌≤◌, List, length, slice_index, All}
+-- The records of a small graph: the file of each is its place, and there are few of them, each with items alone.
+use Rattle.std.specs.Prelude.{◌≡◌, ℕ, ◌<◌, ◌≤◌, List, [], length, slice_index, All, IsTrue, is_some}
+use Rattle.graph_types.specs.declared.item.Item.{Item}
 use Rattle.graph_types.specs.declared.record.ModRecord.{ModRecord}
 use Rattle.graph_types.specs.Modules.{files_of}
 
-abbrev pub HasSmall : ModRecord → Type 0
-HasSmall rec = length rec.items ≤ 16
+-- an item in a text of this length, with a target
+pub record IsGood (size : ℕ) (item : Item) : Type 0 where
+  pub at : item.at ≤ size
+  pub target : IsTrue (is_some item.target)
+
+pub record AreGood (size : ℕ) (items : List Item) : Type 0 where
+  pub few : length items ≤ 8_192
+  pub each : All (IsGood size) items
+
+pub record HasSmall (rec : ModRecord) : Type 0 where
+  pub size : rec.size ≡ 0
+  pub text : length rec.text ≤ 4_096
+  pub items : AreGood (length rec.text) rec.items
+  pub binds : rec.binds ≡ []
+  pub exports : rec.exports ≡ []
+  pub stars : rec.stars ≡ []
+  pub edits : rec.edits ≡ []
+  pub faults : rec.faults ≡ []
 
 pub record AreSmall (records : List ModRecord) : Type 0 where
   pub count : length records ≤ 16

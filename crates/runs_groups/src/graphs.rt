@@ -1,7 +1,9 @@
 //! Graphs and groups from a line of words.
 
 ghost use Rattle.std.specs.Prelude.{◌≡◌, ◌+◌, ◌<◌, ◌≤◌, length, OnOk, IfOk, vec_len};
-ghost use Rattle.runs_groups.specs.Small.{AreSmall, HasSmall};
+ghost use Rattle.std.specs.Option.{IfSome};
+ghost use Rattle.graph_types.specs.Fits.{HoldsWholeRecords};
+ghost use Rattle.runs_groups.specs.Small.{AreGood, AreSmall, HasSmall, IsGood};
 
 use fault_place::{Bytes, FileId, ModuleNo, NoMemory, Seq, Span, Text};
 use graph_types::{GroupInfo, Groups, Item, ItemKind, ModKind, ModRecord, ModuleGraph};
@@ -25,64 +27,111 @@ fn modules(alloc: Global, text: &str) -> Result<Seq<ModuleNo>, NoMemory> {
     Ok(Seq::from_vec(all))
 }
 
-fn add_item(
-    alloc: Global,
-    items: &mut Vec<Item>,
-    kind: ItemKind,
-    target: &str,
-) -> Result<(), NoMemory>
-    ensures { OnOk result (vec_len items.new ≤ vec_len items.old + 1) }
+/// An item from its target, with `=NAME` for its chunk's name and `@OFFSET` for its request's quote.
+fn item(alloc: Global, kind: ItemKind, word: &str, size: u32) -> Result<Option<Item>, NoMemory>
+    ensures { IfOk result (λ item. IfSome item (IsGood size)) }
 {
-    let Ok(number) = target.parse::<u32>() else {
-        return Ok(());
+    let (word, at) = word.split_once('@').unwrap_or((word, "0"));
+    let (target, name) = match word.split_once('=') {
+        Some((target, name)) => (target, Some(Text::new(alloc, name)?)),
+        None => (word, None),
     };
-    items.push(Item {
+    let Ok(target) = target.parse::<u32>() else {
+        return Ok(None);
+    };
+    Ok(Some(Item {
         kind,
         span: Span { start: 0, end: 0 },
-        at: 0,
+        at: at.parse::<u32>().unwrap_or(0).min(size),
         request: Text::new(alloc, "./a.js")?,
-        chunk_name: None,
-        target: Some(FileId(number)),
-    })?;
+        chunk_name: name,
+        target: Some(FileId(target)),
+    }))
+}
+
+fn any_item(alloc: Global, part: &str, size: u32) -> Result<Option<Item>, NoMemory>
+    ensures { IfOk result (λ item. IfSome item (IsGood size)) }
+{
+    if let Some(word) = part.strip_prefix('l') {
+        return item(alloc, ItemKind::Lazy, word, size);
+    }
+    match part.strip_prefix('i') {
+        Some(word) => item(alloc, ItemKind::Import, word, size),
+        None => Ok(None),
+    }
+}
+
+fn add_item(alloc: Global, items: &mut Vec<Item>, part: &str, size: u32) -> Result<(), NoMemory>
+    requires good { AreGood size items.old.items }
+    requires room { vec_len items.old < 8_192 }
+    ensures { OnOk result (AreGood size items.new.items) }
+{
+    let item = any_item(alloc, part, size)?;
+    let Some(item) = item else {
+        return Ok(());
+    };
+    items.push(item)?;
     Ok(())
 }
 
-fn add_part(alloc: Global, items: &mut Vec<Item>, part: &str) -> Result<(), NoMemory>
-    ensures { OnOk result (vec_len items.new ≤ vec_len items.old + 1) }
+/// Adds an item as often as `*COUNT` behind it says, or once.
+fn add_part(alloc: Global, items: &mut Vec<Item>, part: &str, size: u32) -> Result<(), NoMemory>
+    requires { AreGood size items.old.items }
+    ensures { OnOk result (AreGood size items.new.items) }
 {
-    if let Some(target) = part.strip_prefix('l') {
-        return add_item(alloc, items, ItemKind::Lazy, target);
+    let (part, count) = part.split_once('*').unwrap_or((part, "1"));
+    for _ in 0..count.parse::<u32>().unwrap_or(0) {
+        if items.len() >= 8_192 {
+            return Ok(());
+        }
+        add_item(alloc, items, part, size)?;
     }
-    let Some(target) = part.strip_prefix('i') else {
-        return Ok(());
-    };
-    add_item(alloc, items, ItemKind::Import, target)
+    Ok(())
 }
 
-fn items(alloc: Global, text: &str) -> Result<Vec<Item>, NoMemory>
-    ensures { IfOk result (λ items. vec_len items ≤ 16) }
+fn items(alloc: Global, text: &str, size: u32) -> Result<Vec<Item>, NoMemory>
+    ensures { IfOk result (λ items. AreGood size items.items) }
 {
     let mut items = Vec::new(alloc);
     for part in text.split(',') {
-        if items.len() >= 16 {
-            return Ok(items);
-        }
-        add_part(alloc, &mut items, part)?;
+        add_part(alloc, &mut items, part, size)?;
     }
     Ok(items)
 }
 
-fn record(alloc: Global, file: u32, text: &str) -> Result<ModRecord, NoMemory>
+/// A text in which `_` is a space and `~` a line's end.
+fn bytes(alloc: Global, word: &str) -> Result<Vec<u8>, NoMemory>
+    ensures { IfOk result (λ bytes. vec_len bytes ≤ 4_096) }
+{
+    let mut bytes = Vec::new(alloc);
+    for byte in word.bytes() {
+        if bytes.len() >= 4_096 {
+            return Ok(bytes);
+        }
+        bytes.push(match byte {
+            b'_' => b' ',
+            b'~' => b'\n',
+            other => other,
+        })?;
+    }
+    Ok(bytes)
+}
+
+/// A record from `ITEMS;PATH;TEXT`, where path and text may be left out.
+fn record(alloc: Global, file: u32, word: &str) -> Result<ModRecord, NoMemory>
     ensures file { IfOk result (λ rec. rec.file.0 ≡ file) }
     ensures small { IfOk result HasSmall }
 {
-    let items = items(alloc, text)?;
+    let (list, rest) = word.split_once(';').unwrap_or((word, "a.js"));
+    let (path, text) = rest.split_once(';').unwrap_or((rest, ""));
+    let text = bytes(alloc, text)?;
+    let items = items(alloc, list, text.len() as u32)?;
     Ok(ModRecord {
         file: FileId(file),
-        path: Text::new(alloc, "a.js")?,
+        path: Text::new(alloc, path)?,
         size: 0,
         kind: ModKind::Es,
-        text: Bytes::from_vec(Vec::new(alloc)),
+        text: Bytes::from_vec(text),
         items: Seq::from_vec(items),
         binds: Seq::new(alloc),
         exports: Seq::new(alloc),
@@ -120,10 +169,32 @@ fn records(alloc: Global, line: &str) -> Result<Vec<ModRecord>, NoMemory>
     Ok(records)
 }
 
+fn files(alloc: Global, text: &str) -> Result<Seq<FileId>, NoMemory> {
+    let mut all = Vec::new(alloc);
+    for number in numbers(alloc, text)? {
+        all.push(FileId(number))?;
+    }
+    Ok(Seq::from_vec(all))
+}
+
+/// The files of each entry, from the words `r:FILES`.
+pub fn entries(alloc: Global, line: &str) -> Result<Vec<Seq<FileId>>, NoMemory> {
+    let mut all = Vec::new(alloc);
+    for word in line.split(' ') {
+        if let Some(text) = word.strip_prefix("r:") {
+            all.push(files(alloc, text)?)?;
+        }
+    }
+    Ok(all)
+}
+
 /// The graph of the line's modules.
-pub fn graph(alloc: Global, line: &str) -> Result<ModuleGraph, NoMemory> {
+pub fn graph(alloc: Global, line: &str, entries: &[Seq<FileId>]) -> Result<ModuleGraph, NoMemory>
+    ensures { IfOk result (HoldsWholeRecords (length entries.now)) }
+{
     let records = records(alloc, line)?;
-    ModuleGraph::from_records(alloc, records, &[], Vec::new(alloc))
+    let graph = ModuleGraph::from_records(alloc, records, entries, Vec::new(alloc))?;
+    Ok(graph)
 }
 
 fn add_group(alloc: Global, infos: &mut Vec<GroupInfo>, word: &str) -> Result<(), NoMemory>

@@ -6,6 +6,7 @@
 #![tactic(auto)]
 
 mod graphs;
+mod named;
 mod shows;
 
 use std::io;
@@ -14,7 +15,12 @@ fn main(rt: HostRuntime) -> io::Result<()> {
     let alloc = rt.alloc();
     for line in rt.lines(alloc) {
         let line = line?;
-        let answer = shows::answer(alloc, line.as_str())?;
+        let words = line.as_str();
+        let answer = if words.starts_with("j:") {
+            named::answer(alloc, words)?
+        } else {
+            shows::answer(alloc, words)?
+        };
         println!(rt; "{answer}")?;
     }
     Ok(())

@@ -65,24 +65,37 @@ fn show_group(
 
 /// For each group what it has available, what is placed in it, and why.
 pub fn answer(alloc: Global, words: &str) -> Result<String, NoMemory> {
-    let graph = graphs::graph(alloc, words)?;
+    let graph = graphs::graph(alloc, words, &[])?;
     let groups = graphs::groups(alloc, words)?;
     let mut line = String::new(alloc);
     if !are_over(&graph, &groups) {
         line.push_str("out of range")?;
         return Ok(line);
     }
-    let reach = reach(alloc, &graph, &groups)?;
-    let avail = available(alloc, &graph, &groups, &reach)?;
+    show_all(alloc, &mut line, &graph, &groups)?;
+    Ok(line)
+}
+
+/// Adds for each group what it has available, what is placed in it, and why.
+pub fn show_all(
+    alloc: Global,
+    line: &mut String,
+    graph: &ModuleGraph,
+    groups: &Groups,
+) -> Result<(), NoMemory>
+    requires over { AreGroupsOver graph.now groups.now.infos }
+{
+    let reach = reach(alloc, graph, groups)?;
+    let avail = available(alloc, graph, groups, &reach)?;
     let placed = place(alloc, &reach, &avail)?;
     for g in 0..groups.count() {
         write!(line, "{g}: has")?;
-        show_row(&mut line, avail.row(g))?;
+        show_row(line, avail.row(g))?;
         line.push_str(" gets")?;
-        show_row(&mut line, placed.row(g))?;
+        show_row(line, placed.row(g))?;
         line.push_str(" since")?;
-        show_group(alloc, &mut line, &graph, &groups, &reach, g)?;
+        show_group(alloc, line, graph, groups, &reach, g)?;
         line.push_str("; ")?;
     }
-    Ok(line)
+    Ok(())
 }

@@ -1,3 +1,9 @@
+pub mod Claimed
+pub mod Exact
 pub mod Firsts
 pub mod Joined
+pub mod Kept
+pub mod Loading
+pub mod OneList
+pub mod Passing
 pub mod Takes

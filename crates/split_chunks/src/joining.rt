@@ -5,6 +5,7 @@ ghost use Rattle.chunk_graph.specs.Chunks.{chunk_at, group_at, is_in};
 ghost use Rattle.split_plan.specs.Step.{with_joined};
 ghost use Rattle.split_chunks.specs.Ends.{joined_list};
 
+use crate::lists::is_there;
 use bit_rows::BitRow;
 use chunk_graph::ChunkGraph;
 use fault_place::{ChunkNo, GroupNo, NoMemory};
@@ -13,12 +14,6 @@ fn has_some(list: &[ChunkNo], row: &BitRow) -> bool
     ensures { result ≡ list_any (λ c. is_in row.now c.0) list.now }
 {
     list.iter().any(|chunk| is_there(row, chunk.0))
-}
-
-fn is_there(row: &BitRow, place: u32) -> bool
-    ensures { result ≡ is_in row.now place }
-{
-    place < row.len() && row.get(place)
 }
 
 fn join_one(

@@ -1,9 +1,11 @@
-//! Rows as lists of numbers, and rows copied.
-ghost use Rattle.std.specs.Prelude.{◌≡◌, ◌≤◌, ◌-◌, ◌++◌, length, map, IfOk};
+//! Rows as lists of numbers, lists as rows, and rows copied.
+ghost use Rattle.std.specs.Prelude.{◌≡◌, ℕ, ◌<◌, ◌≤◌, ◌-◌, ◌++◌, ◌||◌, ◌==◌, true, length, map, slice_set, IfOk};
 ghost use Rattle.graph_types.specs.Modules.{module_no};
+ghost use Rattle.chunk_graph.specs.Chunks.{is_in};
 ghost use Rattle.chunk_graph.specs.Moves.{chunk_no};
 ghost use Rattle.bit_rows.specs.Table.{blank};
 ghost use Rattle.split_plan.specs.Order.{places};
+ghost use Rattle.split_chunks.specs.Rules.{row_of, same_chunks, same_modules};
 
 use bit_rows::BitRow;
 use fault_place::{ChunkNo, ModuleNo, NoMemory, Seq};
@@ -44,4 +46,43 @@ pub fn grown(alloc: Global, row: &BitRow, len: u32) -> Result<BitRow, NoMemory>
     copy.copy_from(row);
     copy.grow(alloc, len)?;
     Ok(copy)
+}
+
+/// Whether the place is one of the row's, and true.
+pub fn is_there(row: &BitRow, place: u32) -> bool
+    ensures { result ≡ is_in row.now place }
+{
+    place < row.len() && row.get(place)
+}
+
+/// The set of the chunks of a list that are among so many.
+pub fn chunk_row(alloc: Global, list: &[ChunkNo], len: u32) -> Result<BitRow, NoMemory>
+    ensures { IfOk result (λ row. row ≡ row_of list.now len) }
+{
+    let mut row = BitRow::new(alloc, len)?;
+    for chunk in list {
+        set_within(&mut row, chunk.0);
+    }
+    Ok(row)
+}
+
+fn set_within(row: &mut BitRow, place: u32)
+    ensures len { length row.new ≡ length row.old }
+    ensures places { (i : ℕ) → i < length row.old → is_in row.new i ≡ (is_in row.old i || (place == i)) }
+{
+    if place < row.len() {
+        row.set(place, true);
+    }
+}
+
+pub fn same_chunks(list: &[ChunkNo], other: &[ChunkNo]) -> bool
+    ensures { result ≡ same_chunks list.now other.now }
+{
+    list == other
+}
+
+pub fn same_modules(list: &[ModuleNo], other: &[ModuleNo]) -> bool
+    ensures { result ≡ same_modules list.now other.now }
+{
+    list == other
 }

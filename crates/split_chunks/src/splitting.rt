@@ -2,6 +2,8 @@
 ghost use Rattle.std.specs.Prelude.{◌≡◌, ◌≤◌, ◌^◌, ◌⊎◌, length, map, sum, IfOk, IfErr};
 ghost use Rattle.split_plan.specs.Plan.{plan_of};
 ghost use Rattle.split_plan.specs.Step.{AreSplits, NeedTooMany};
+ghost use Rattle.split_chunks.specs.Accepted.{AreAccepted};
+ghost use Rattle.split_chunks.specs.Loads.{KeepsLoads};
 ghost use Rattle.split_chunks.specs.declared.split_end.SplitEnd.TheVariants.{Limit, NoMemory};
 
 use crate::SplitEnd;
@@ -21,18 +23,19 @@ fn split_by(
     requires plan { plan.now ≡ plan_of graph.now config.now }
     requires width { state.old.width ≡ length plan.now.sizes }
     ensures splits { IfOk result (λ v. AreSplits plan.now state.old v.items state.new) }
+    ensures accepted { IfOk result (λ v. AreAccepted plan.now state.old v.items state.new) }
+    ensures loads { IfOk result (λ v. KeepsLoads plan.now state.old v.items state.new) }
     ensures err { IfErr result (λ e. (e ≡ NoMemory) ⊎ ((e ≡ Limit) × NeedTooMany plan.now state.old state.new)) }
 {
     let _width = plan.width();
-    let _count = state.count();
     let mut splits = Vec::new(alloc);
     loop {
+        let _sound = state.count();
         let found = candidates_of(alloc, plan, state)?;
         let place = match greatest_place(graph, config, &found) {
             Some(place) => place,
             None => return Ok(splits),
         };
-        let _sound = state.count();
         let made = match take(alloc, plan, state, &found[place]) {
             Ok(made) => made,
             Err(end) => return Err(end),
@@ -41,7 +44,7 @@ fn split_by(
     }
 }
 
-/// Takes the best candidate until there is none. After `Limit` the state is the one after a prefix of the splits; after
+/// Takes the best candidate until there is none; the check accepts these splits. After `Limit` the state is the one after a prefix of the splits; after
 /// `NoMemory` it isn't used again.
 pub fn split(
     alloc: Global,
@@ -52,6 +55,8 @@ pub fn split(
     requires small { sum (map (λ rec. rec.size) graph.now.records) ≤ 2 ^ 50 }
     requires width { state.old.width ≡ length graph.now.records }
     ensures splits { IfOk result (λ v. AreSplits (plan_of graph.now config.now) state.old v.items state.new) }
+    ensures accepted { IfOk result (λ v. AreAccepted (plan_of graph.now config.now) state.old v.items state.new) }
+    ensures loads { IfOk result (λ v. KeepsLoads (plan_of graph.now config.now) state.old v.items state.new) }
     ensures err { IfErr result (λ e. (e ≡ NoMemory) ⊎ ((e ≡ Limit) × NeedTooMany (plan_of graph.now config.now) state.old state.new)) }
 {
     let plan = SplitPlan::new(alloc, graph, config)?;

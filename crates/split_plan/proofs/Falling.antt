@@ -185,7 +185,7 @@ shares_one (Some name) rule k forced s width set d (spent, same) there =
     let parts = and_parts (is_shared rule forced s q.0) _ q.3 in
     record { «module» = q.0; within = (let l = q.2 in omega arith); shared = parts.1; goes = parts.0 }
 
-lends_one : (p : Plan) (s : State) (x : Candidate) → IsPlan p → IsCandidate p s x → Lends s x
+pub lends_one : (p : Plan) (s : State) (x : Candidate) → IsPlan p → IsCandidate p s x → Lends s x
 lends_one p s x plan is =
     let rule = rule_at p x.cache_group in
     let some = count_some x.chunks (omega (arith, is.enough, plan.counted x.cache_group)) in

@@ -1,3 +1,4 @@
+pub mod Claimed
 pub mod Falling
 pub mod Found
 pub mod GreatestOf

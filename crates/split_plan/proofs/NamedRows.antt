@@ -18,12 +18,12 @@ use Rattle.split_plan.proofs.Found.{told_by, share_at, enough_for}
 use Rattle.split_plan.proofs.Places.{or_false, or_assoc}
 use Rattle.std.proofs.lemmas.List.Elements.{All-push, Contains-push}
 
-any_more : (p : ℕ → Bool) (a n : ℕ) → list_any p (range_with_len a (n + 1)) ≡ (list_any p (range_with_len a n) || p (a + n))
+pub any_more : (p : ℕ → Bool) (a n : ℕ) → list_any p (range_with_len a (n + 1)) ≡ (list_any p (range_with_len a n) || p (a + n))
 any_more p a zero = sym (or_false (p a)) ∙ ap p (sym (add-zero a))
 any_more p a (suc n) = let e : a + 1 + n ≡ a + suc n = omega arith in let f : suc n + 1 ≡ suc (n + 1) = omega arith in
     ap (λ k. list_any p (range_with_len a k)) f ∙ ap (λ b. p a || b) (any_more p (a + 1) n ∙ ap (λ k. list_any p (range_with_len (a + 1) n) || p k) e) ∙ sym (or_assoc (p a) (list_any p (range_with_len (a + 1) n)) (p (a + suc n)))
 
-any_same : (f g : ℕ → Bool) (a n : ℕ) → ((k : ℕ) → a ≤ k → k < a + n → f k ≡ g k) → list_any f (range_with_len a n) ≡ list_any g (range_with_len a n)
+pub any_same : (f g : ℕ → Bool) (a n : ℕ) → ((k : ℕ) → a ≤ k → k < a + n → f k ≡ g k) → list_any f (range_with_len a n) ≡ list_any g (range_with_len a n)
 any_same f g a zero h = refl
 any_same f g a (suc n) h = ap (λ b. b || list_any f (range_with_len (a + 1) n)) (h a (omega arith) (omega arith)) ∙ ap (λ b. g a || b) (any_same f g (a + 1) n (λ k l b. h k (omega arith) (omega arith)))
 

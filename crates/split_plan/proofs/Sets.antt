@@ -64,11 +64,11 @@ count_none (false ∷ row) h = let c = count_none row (λ i. h (suc i)) in omega
 pub none_is_none : (places : List Bool) → NoneTrue places 0 (length places) → (i : ℕ) → is_in places i ≡ false
 none_is_none places none i = elim (cases_lt i (length places)) [ inl lt ↦ none i (omega arith) lt | inr ge ↦ get_or_past places i false ge ]
 
-map_range_same : (f g : ℕ → Bool) (a n : ℕ) → ((k : ℕ) → a ≤ k → k < a + n → f k ≡ g k) → map f (range_with_len a n) ≡ map g (range_with_len a n)
+pub map_range_same : (f g : ℕ → Bool) (a n : ℕ) → ((k : ℕ) → a ≤ k → k < a + n → f k ≡ g k) → map f (range_with_len a n) ≡ map g (range_with_len a n)
 map_range_same f g a zero h = refl
 map_range_same f g a (suc n) h = ap (λ b. b ∷ map f (range_with_len (a + 1) n)) (h a (omega arith) (omega arith)) ∙ ap (λ r. g a ∷ r) (map_range_same f g (a + 1) n (λ k l b. h k (omega arith) (omega arith)))
 
-goes_unnamed : (name : Option (List ℕ)) (rule : Rule) (forced : Bool) (s : State) (set : List Bool) (m : ℕ) → name ≡ None → goes name rule forced s set m ≡ (meets rule m && lies_in set (sharers rule forced s m))
+pub goes_unnamed : (name : Option (List ℕ)) (rule : Rule) (forced : Bool) (s : State) (set : List Bool) (m : ℕ) → name ≡ None → goes name rule forced s set m ≡ (meets rule m && lies_in set (sharers rule forced s m))
 goes_unnamed None rule forced s set m e = refl
 goes_unnamed (Some name) rule forced s set m e = cc
 

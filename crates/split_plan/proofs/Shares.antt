@@ -6,8 +6,8 @@ use Rattle.std.proofs.lemmas.List.FromFn.{get_or-map-range_with_len, length-map-
 use Rattle.bit_rows.specs.Places.{meet}
 use Rattle.chunk_graph.specs.Chunks.{State, holds}
 use Rattle.split_plan.specs.declared.rule.Rule.{Rule}
-use Rattle.split_plan.specs.Shares.{may_share, sharers}
-use Rattle.split_plan.specs.inner.Rows.{column, columns_of, allowed_row}
+use Rattle.split_plan.specs.Shares.{allowed_row, may_share, sharers}
+use Rattle.split_plan.specs.inner.Rows.{column, columns_of}
 
 meet-maps : (f g : ℕ → Bool) (xs : List ℕ) → zip2 (λ x y. x && y) (map f xs) (map g xs) ≡ map (λ i. f i && g i) xs
 meet-maps f g [] = refl

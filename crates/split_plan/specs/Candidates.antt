@@ -1,9 +1,10 @@
 -- The admissible candidates for a split (webpack docs, SplitChunksPlugin: `cacheGroups`, `minSize`,
 -- `enforceSizeThreshold`), from the plan and the chunk graph alone. A set of chunks or of modules is a row.
 use Rattle.std.specs.Prelude.{◌≡◌, ◌≢◌, ℕ, ◌<◌, ◌≤◌, Bool, true, false, not, ◌&&◌, ◌||◌, List, length, map, sum, if◌then◌else◌, All, Contains, Option, None, Some}
-use Rattle.std.specs.List.{AllPairs, list_all, range_with_len}
+use Rattle.std.specs.List.{AllPairs, list_all, list_any, range_with_len}
 use Rattle.std.specs.Simd.Lanes.{zip2}
 use Rattle.chunk_graph.specs.Chunks.{State, is_in, count}
+use Rattle.chunk_graph.specs.Moves.{same_row}
 use Rattle.split_plan.specs.declared.candidate.Candidate.{Candidate}
 use Rattle.split_plan.specs.declared.rule.Rule.{Rule}
 use Rattle.split_plan.specs.Plan.{Plan, rule_at}
@@ -46,6 +47,24 @@ pub record IsCandidate (p : Plan) (s : State) (x : Candidate) : Type 0 where
   pub size : x.size ≡ size_of p.sizes x.modules
   pub enough : (rule_at p x.cache_group).min_chunks ≤ count x.chunks
   pub large : is_reached (bound_of (rule_at p x.cache_group) x.forced) x.size ≡ true
+
+-- whether a set of chunks is one of those, told for a cache group that isn't spent
+abbrev pub comes_by : Option (List ℕ) → Rule → Bool → State → ℕ → List Bool → Bool
+comes_by None rule forced s width set = list_any (λ m. meets rule m && same_row (sharers rule forced s m) set) (range_with_len 0 width)
+comes_by (Some name) rule forced s width set = same_row (named_chunks rule forced s width) set
+
+abbrev pub comes_from : Rule → Bool → State → ℕ → List Bool → Bool
+comes_from rule forced s width set = comes_by rule.name rule forced s width set
+
+-- the candidate with these chunks, whether or not it is admissible
+abbrev pub candidate_of : Plan → State → ℕ → Bool → List Bool → Candidate
+candidate_of p s k forced set = record {
+  cache_group = k;
+  forced = forced;
+  chunks = set;
+  modules = modules_for (rule_at p k) forced s (length p.sizes) set;
+  size = size_of p.sizes (modules_for (rule_at p k) forced s (length p.sizes) set);
+}
 
 -- exactly the members of a set, each once
 pub record Lists {X : Type 0} (P : X → Type 0) (xs : List X) : Type 0 where

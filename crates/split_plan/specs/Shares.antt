@@ -34,6 +34,10 @@ is_full rule s i =
 abbrev pub may_share : Rule → Bool → State → ℕ → Bool
 may_share rule forced s i = is_open (chunk_at s i) && (is_selected rule.select s i && (forced || not (is_full rule s i)))
 
+-- the chunks from which it may
+abbrev pub allowed_row : Rule → Bool → State → List Bool
+allowed_row rule forced s = map (may_share rule forced s) (range_with_len 0 (length s.chunks))
+
 -- the chunks that share the module
 abbrev pub sharers : Rule → Bool → State → ℕ → List Bool
 sharers rule forced s m = map (λ i. may_share rule forced s i && holds s i m) (range_with_len 0 (length s.chunks))

@@ -3,8 +3,8 @@ ghost use Rattle.std.specs.Prelude.{◌≡◌, ℕ, ◌<◌, ◌≤◌, ◌||◌
 ghost use Rattle.std.specs.List.{list_any};
 ghost use Rattle.fault_place.specs.declared.number.ChunkNo.{ChunkNo};
 ghost use Rattle.chunk_graph.specs.Chunks.{is_in, is_open, chunk_at, has};
-ghost use Rattle.split_plan.specs.Shares.{is_reached, is_taken, stands_in_entry};
-ghost use Rattle.split_plan.specs.inner.Rows.{IsChunkRow, reached_in, allowed_row};
+ghost use Rattle.split_plan.specs.Shares.{allowed_row, is_reached, is_taken, stands_in_entry};
+ghost use Rattle.split_plan.specs.inner.Rows.{IsChunkRow, reached_in};
 
 use crate::Rule;
 use bit_rows::BitRow;

@@ -4,8 +4,8 @@ ghost use Rattle.std.specs.List.{range_with_len};
 ghost use Rattle.bit_rows.specs.Places.{meet};
 ghost use Rattle.chunk_graph.specs.Chunks.{is_in, count};
 ghost use Rattle.split_plan.specs.Candidates.{size_of, bound_of};
-ghost use Rattle.split_plan.specs.Shares.{sharers, is_reached};
-ghost use Rattle.split_plan.specs.inner.Rows.{columns_of, allowed_row};
+ghost use Rattle.split_plan.specs.Shares.{allowed_row, sharers, is_reached};
+ghost use Rattle.split_plan.specs.inner.Rows.{columns_of};
 
 use crate::Rule;
 use crate::allowed::allowed_chunks;

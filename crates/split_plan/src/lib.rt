@@ -6,6 +6,7 @@
 
 mod allowed;
 mod candidate;
+mod claims;
 mod columns;
 mod compare;
 mod form;
@@ -17,7 +18,10 @@ mod rule;
 mod search;
 mod unnamed;
 
+pub use allowed::allowed_chunks;
 pub use candidate::Candidate;
+pub use claims::claim;
+pub use form::is_large;
 pub use greatest::{best, greatest_place};
 pub use plan::SplitPlan;
 pub use rule::Rule;

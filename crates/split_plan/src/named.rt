@@ -14,9 +14,9 @@ use std::alloc::Global;
 
 /// The modules that enough chunks share, and the chunks that share one of them.
 #[derive(Drop)]
-struct NamedRows {
-    modules: BitRow,
-    chunks: BitRow,
+pub struct NamedRows {
+    pub modules: BitRow,
+    pub chunks: BitRow,
 }
 
 /// Whether the module meets the test, and enough chunks share it.
@@ -27,7 +27,7 @@ fn is_shared(rule: &Rule, share: &BitRow, module: u32) -> bool
     rule.test.get(module) && rule.min_chunks <= share.count()
 }
 
-fn named_rows(
+pub fn named_rows(
     alloc: Global,
     state: &ChunkGraph,
     rule: &Rule,

@@ -39,7 +39,7 @@ fn is_first(rule: &Rule, shares: &[BitRow], mods: &BitRow, module: u32) -> bool
 }
 
 /// Whether the module meets the test, and its chunks hold the set.
-fn goes_with(rule: &Rule, share: &BitRow, set: &BitRow, module: u32) -> bool
+pub fn goes_with(rule: &Rule, share: &BitRow, set: &BitRow, module: u32) -> bool
     requires { «module» < length rule.now.test }
     ensures { result ≡ (meets rule.now «module» && lies_in set.now share.now) }
 {

@@ -11,7 +11,7 @@ use Rattle.es_scan.specs.Notes.{notes_by}
 use Rattle.es_scan.specs.Scan.{upto, any_upto, items_at, binds_at, exports_at, stars_at, edits_at, notes_at, flaws_at, declares_at, export_names, local_names}
 use Rattle.es_scan.specs.Stars.{stars_by, is_declaration}
 use Rattle.es_scan.specs.declared.given.Given.{Given}
-use Rattle.es_scan.specs.declared.magic.Magic.{Magic}
+use Rattle.magic_comments.specs.declared.magic.Magic.{Magic}
 
 abbrev pub nothing_given : Given
 nothing_given = record { items = []; binds = []; exports = []; stars = []; edits = []; notes = []; flaws = []; es = false }

@@ -2,8 +2,7 @@
 use Rattle.std.specs.Prelude.{◌≡◌, ℕ, ◌-◌, Bool, ◌&&◌, List, length, map, take, drop, Option}
 use Rattle.std.specs.List.{filter, list_any, range_with_len}
 use Rattle.chunk_graph.specs.Chunks.{State, is_in, holds, has}
-use Rattle.split_plan.specs.declared.rule.Rule.{Rule}
-use Rattle.split_plan.specs.Shares.{is_reached, may_share}
+use Rattle.split_plan.specs.Shares.{is_reached}
 
 abbrev pub chunk_row : State → (ℕ → Bool) → List Bool
 chunk_row s test = map test (range_with_len 0 (length s.chunks))
@@ -18,9 +17,6 @@ columns_of s width = map (column s) (range_with_len 0 width)
 -- the chunks of the groups from `low` on and below `high` that have at least so many
 abbrev pub reached_in : Option ℕ → ℕ → ℕ → State → ℕ → Bool
 reached_in most low high s i = list_any (λ g. has i g && is_reached most (length g)) (drop low (take high s.groups))
-
-abbrev pub allowed_row : Rule → Bool → State → List Bool
-allowed_row rule forced s = chunk_row s (may_share rule forced s)
 
 -- the true places of a row from a place on, ascending
 abbrev pub places_from : ℕ → List Bool → List ℕ

@@ -1,8 +1,8 @@
-use Rattle.std.proofs.Common.{◌≡◌, ◌<◌, length, refl, sym, subst, below_more, ◌∙◌, arith}
+use Rattle.std.proofs.Common.{◌<◌, length, refl, sym, subst, below_more, ◌∙◌, arith}
 use Rattle.std.proofs.lemmas.Bool.{false≢true}
 use Rattle.std.proofs.lemmas.List.{get_or_default}
 use Rattle.graph_types.specs.declared.groups.GroupInfo.{GroupInfo}
-use Rattle.chunk_groups.specs.Grouped.{IsOver, info_at, no_group}
+use Rattle.chunk_groups.specs.Grouped.{IsOver, no_group}
 use Rattle.chunk_groups.proofs.Infos.{info_is}
 use Rattle.chunk_groups.proofs.over.are_over.Goals as goal
 

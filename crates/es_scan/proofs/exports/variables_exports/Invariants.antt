@@ -1,6 +1,6 @@
 use Rattle.std.proofs.Common.{◌≡◌, map, take}
-use Rattle.es_scan.specs.Exports.{variable_export}
+use Rattle.es_scan.specs.Exports.{own_export}
 use Rattle.es_scan.proofs.exports.variables_exports.Given as goal
 
-abbrev pub invariant-loop-part : goal.invariant-loop-part
-invariant-loop-part l = l.exports ≡ map (λ part. variable_export l.source.text.now part.now) (take l.part-index l.part-items)
+abbrev pub invariant-loop-name : goal.invariant-loop-name
+invariant-loop-name l = l.exports ≡ map (λ name. own_export name.now) (take l.name-index l.name-items)

@@ -1,5 +1,4 @@
-use Rattle.std.proofs.Common.{◌++◌, arith, ap, ◌∙◌}
-use Rattle.std.specs.Prelude.{option_to_list}
+use Rattle.std.proofs.Common.{arith}
 use Rattle.pack_config.specs.Entries.{file_of}
 use Rattle.pack_config.specs.Values.{any_text}
 use Rattle.pack_config.proofs.After.{each_more, kept_more}
@@ -9,6 +8,5 @@ pub loop-item-preserved : goal.loop-item-preserved
 loop-item-preserved c = record {
   faults = each_more c.args.items.now c.loop-item.item-index c.item-item.result (omega arith) c.item-item.is any_text _ _ _ c.loop-item.invariant.faults c.in_ok-push_file.ensures.faults;
   value = kept_more c.args.items.now c.loop-item.item-index c.item-item.result (omega arith) c.item-item.is (file_of c.args.places.now) _ _ c.loop-item.invariant.value
-      (c.in_ok-push_file.ensures.value ∙ ap (λ text. c.loop-item.files.items ++ option_to_list (file_of text c.item-item.result)) c.loop-item.invariant.places);
-  places = c.in_ok-push_file.ensures.places ∙ c.loop-item.invariant.places;
+      c.in_ok-push_file.ensures.value;
 }

@@ -9,6 +9,5 @@ use Rattle.pack_config.proofs.entry.listed_files.Given as goal
 abbrev pub invariant-loop-item : goal.invariant-loop-item
 invariant-loop-item l = record {
   faults : l.found ≡ after l.initial.found (flat_map any_text (take l.item-index l.items));
-  value : l.files.items ≡ filter_map (file_of l.fn.places) (take l.item-index l.items);
-  places : l.places ≡ l.fn.places;
+  value : l.files.items ≡ filter_map (file_of l.places) (take l.item-index l.items);
 }

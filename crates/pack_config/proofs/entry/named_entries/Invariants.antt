@@ -7,6 +7,5 @@ use Rattle.pack_config.proofs.entry.named_entries.Given as goal
 abbrev pub invariant-loop-pair : goal.invariant-loop-pair
 invariant-loop-pair l = record {
   faults : l.found ≡ after l.initial.found (flat_map named_rule (take l.pair-index l.pairs));
-  value : l.entries.items ≡ map (entry_of l.fn.places) (take l.pair-index l.pairs);
-  places : l.places ≡ l.fn.places;
+  value : l.entries.items ≡ map (entry_of l.places) (take l.pair-index l.pairs);
 }

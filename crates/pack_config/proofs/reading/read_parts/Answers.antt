@@ -11,11 +11,11 @@ use Rattle.pack_config.proofs.reading.read_parts.Goals as goal
 
 pub returns-clause-value : goal.returns-clause-value
 returns-clause-value c = λ clean. record {
-  entries = c.in_ok-entries.ensures.value ∙ ap (entries_of c.new-places.result) c.value_at-4.ensures
-      ∙ ap (λ (text : List ℕ). entries_of text (value_at (codes "entry") (Some c.args.tree.now))) c.new-places.ensures;
+  entries = c.in_ok-entries.ensures.value ∙ ap (entries_of c.in_ok-places.places) c.value_at-4.ensures
+      ∙ ap (λ (text : List ℕ). entries_of text (value_at (codes "entry") (Some c.args.tree.now))) c.in_ok-places.ensures;
   output = subst (λ (v : Option JsonTree). IsOutputOf v c.in_ok-output.output) c.value_at-5.ensures (c.in_ok-output.ensures.value (ap output_rule c.value_at-5.ensures ∙ clean));
   resolve = c.in_ok-resolve.ensures.value ∙ ap resolve_of c.value_at-6.ensures;
   optimization = c.in_ok-optimization.ensures.value
-      ∙ ap (λ (text : List ℕ). optimization_of text (option_copied c.value_at-7.result)) (c.in_ok-entries.ensures.places ∙ c.new-places.ensures)
+      ∙ ap (λ (text : List ℕ). optimization_of text (option_copied c.value_at-7.result)) c.in_ok-places.ensures
       ∙ ap (optimization_of c.args.text.now) c.value_at-7.ensures;
 }

@@ -7,6 +7,5 @@ use Rattle.pack_config.proofs.split.given_groups.Given as goal
 abbrev pub invariant-loop-pair : goal.invariant-loop-pair
 invariant-loop-pair l = record {
   faults : l.found ≡ after l.fn.found (flat_map member_rule (take l.pair-index l.pairs));
-  value : l.groups.items ≡ map (group_of l.fn.places l.base) (filter is_group (take l.pair-index l.pairs));
-  places : l.places ≡ l.fn.places;
+  value : l.groups.items ≡ map (group_of l.places l.base) (filter is_group (take l.pair-index l.pairs));
 }

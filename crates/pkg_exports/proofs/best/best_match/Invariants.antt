@@ -1,7 +1,7 @@
 use Rattle.std.proofs.Common.{◌≡◌, drop}
 use Rattle.std.specs.List.{fold}
 use Rattle.std.specs.Option.{option_copied}
-use Rattle.pkg_exports.specs.Steps.{better_of}
+use Rattle.pkg_exports.specs.inner.Steps.{better_of}
 use Rattle.pkg_exports.specs.Exports.{greatest, matches_of}
 use Rattle.pkg_exports.proofs.best.best_match.Given as goal
 

@@ -1,5 +1,9 @@
-use Rattle.std.proofs.Common.{arith}
-use Rattle.runs_groups.proofs.Few.{ascend, few_items}
+use Rattle.std.proofs.Common.{arith, length, subst, sym}
+use Rattle.std.specs.Prelude.{filter_map}
+use Rattle.std.proofs.lemmas.List.{length-map}
+use Rattle.graph_types.specs.Fits.{HoldsWholeRecords}
+use Rattle.graph_types.specs.Modules.{module_of}
+use Rattle.runs_groups.proofs.Few.{ascend, few_items, whole-records}
 use Rattle.runs_groups.proofs.graphs.graph.Goals as goal
 
 pub from_records-requires-clause-modules : goal.from_records-requires-clause-modules
@@ -9,3 +13,6 @@ from_records-requires-clause-modules c =
 
 pub from_records-requires-clause-few_items : goal.from_records-requires-clause-few_items
 from_records-requires-clause-few_items c = few_items _ c.in_ok-records.ensures
+
+pub returns : goal.returns
+returns c = subst (HoldsWholeRecords (length c.args.entries.now)) (sym c.in_ok-graph.ensures) (whole-records _ _ (length-map c.args.entries.now (filter_map (module_of c.in_ok-records.records.items))) c.in_ok-records.ensures)

@@ -6,6 +6,9 @@ use Rattle.split_plan.specs.Order.{IsGreatest}
 use Rattle.split_plan.specs.Plan.{Plan}
 use Rattle.split_plan.specs.Step.{AreSteps, IsBest, pairs, reused_of}
 use Rattle.split_plan.proofs.Falling.{split-falls}
+use Rattle.split_chunks.specs.Loads.{KeepsLoads}
+use Rattle.split_chunks.proofs.Loading.{loads-more}
+use Rattle.split_chunks.proofs.Passing.{accepted-steps}
 use Rattle.split_chunks.proofs.Takes.{best-from, steps-more, width-after}
 use Rattle.split_chunks.proofs.splitting.split_by.Goals as goal
 
@@ -54,8 +57,16 @@ loop-splits-preserved c =
     let L : List Candidate → Type 0 = λ list. IsGreatest p list c.in-Some.place in
     let best = best-from p s c.in_ok-found.found.items c.in-Some.place x c.in_ok-found.ensures (subst L c.deref.ensures.value (subst G (sym c.requires.plan) c.in-Some.ensures)) c.index.ensures in
     let Q : List Split → Type 0 = λ list. AreSteps p c.args.state.now list c.take.new.state in
+    let L : List Split → Type 0 = λ list. KeepsLoads p c.args.state.now list c.take.new.state in
     record {
       steps = subst Q (sym c.in_ok-push.ensures.items)
           (steps-more p c.args.state.now s c.take.new.state c.loop-splits.splits.items x c.in-Ok.made c.loop-splits.invariant.steps best c.in-Ok.ensures.ok.0 c.in-Ok.ensures.ok.1);
+      loads = subst L (sym c.in_ok-push.ensures.items)
+          (loads-more p c.args.state.now s c.take.new.state c.loop-splits.splits.items x c.in-Ok.made c.loop-splits.invariant.loads c.count-sound.ensures.sound.shaped c.loop-splits.invariant.width best.there
+          (ap (λ y. y.cache_group) c.in-Ok.ensures.ok.0) c.in-Ok.ensures.ok.1);
       width = ap (λ t. t.width) c.in-Ok.ensures.ok.1 ∙ width-after p s x (reused_of p s x) ∙ c.loop-splits.invariant.width;
     }
+
+pub returns-in-None-clause-accepted : goal.returns-in-None-clause-accepted
+returns-in-None-clause-accepted c =
+    accepted-steps c.args.plan.now c.args.state.now c.loop-splits.state c.loop-splits.splits.items c.width-width.ensures.plan c.loop-splits.invariant.steps c.count-sound.ensures.sound.few

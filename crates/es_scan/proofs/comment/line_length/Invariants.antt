@@ -1,9 +1,0 @@
-use Rattle.std.proofs.Common.{◌≡◌, ◌+◌, length}
-use Rattle.es_scan.specs.Comments.{line_from}
-use Rattle.es_scan.proofs.comment.line_length.Given as goal
-
-abbrev pub invariant-loop-rest : goal.invariant-loop-rest
-invariant-loop-rest l = (line_from 0 l.bytes ≡ line_from l.count l.rest) × (l.count + length l.rest ≡ length l.bytes)
-
-abbrev pub decreases-loop-rest : goal.decreases-loop-rest
-decreases-loop-rest l = length l.rest

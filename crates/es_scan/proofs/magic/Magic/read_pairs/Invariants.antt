@@ -1,8 +1,0 @@
-use Rattle.std.proofs.Common.{◌≡◌, drop, map}
-use Rattle.es_scan.specs.Magic.{read_pairs}
-use Rattle.es_scan.proofs.magic.Magic.read_pairs.Given as goal
-
-abbrev pub invariant-loop-pair : goal.invariant-loop-pair
-invariant-loop-pair l =
-    read_pairs l.content l.at l.initial.self (map (λ pair. pair.now) l.pairs)
-    ≡ read_pairs l.content l.at l.self (map (λ pair. pair.now) (drop l.pair-index l.pairs))

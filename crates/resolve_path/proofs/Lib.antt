@@ -1,0 +1,10 @@
+pub mod Above
+pub mod Asking
+pub mod Caching
+pub mod Fetching
+pub mod Finding
+pub mod Firsts
+pub mod Keeping
+pub mod Readings
+pub mod Texts
+pub mod Trees

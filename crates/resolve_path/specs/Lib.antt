@@ -1,0 +1,15 @@
+pub use Rattle.graph_types.specs.Modules
+pub use Rattle.outside.specs.Logs
+pub use Rattle.outside.specs.Views
+pub use Rattle.pkg_manifest.specs.Manifest
+pub use Rattle.tree_listing.specs.Listing
+pub mod Caches
+pub mod Files
+pub mod Folders
+pub mod inner
+pub mod Manifests
+pub mod Packages
+pub mod Places
+pub mod Requests
+pub mod Resolution
+pub mod Resolves
