@@ -31,17 +31,17 @@ function unresolved() {
     + 'src/index.js:2:8: B9 cannot resolve "../../up.js"\nfaults: 2\n');
 }
 
-function notYet() {
-  for (const text of ['let a = 1;\n', ' import "./a.js";', '\n', "import './a.js';", 'import "./a.js"', 'import "a";']) {
-    build({ 'src/index.js': text, 'src/a.js': '' }, 1, 'src/index.js:1:1: B20 form is not built yet\nfaults: 1\n');
-  }
-  build({ 'src/index.js': 'import "./a.js";\nexport {};\n', 'src/a.js': '' }, 1,
-    'src/index.js:2:1: B20 form is not built yet\nfaults: 1\n');
+function textFaults() {
+  build({ 'src/index.js': 'let a = `;\n' }, 1, 'src/index.js:1:9: B2 unfinished token\nfaults: 1\n');
+  build({ 'src/index.js': 'import a;\nimport(b);\nexport { c as d, e as d };\n' }, 1, 'src/index.js:1:1: B7 form is not supported\n'
+    + 'src/index.js:2:1: B8 import() needs one text\nsrc/index.js:3:1: B16 name "d" is repeated\nfaults: 3\n');
+  build({ 'src/index.js': 'require("./a.json"); require("./a.css");', 'src/a.json': '{"a":}', 'src/a.css': '' }, 1,
+    'src/a.css:1:1: B15 module type is not supported\nsrc/a.json:1:6: B14 bad JSON\nfaults: 2\n');
 }
 
 function tooLong() {
   build({ 'src/index.js': Buffer.alloc(MOST_BYTES + 1) }, 1, 'src/index.js:1:1: B19 module is too long\nfaults: 1\n');
-  build({ 'src/index.js': Buffer.alloc(MOST_BYTES) }, 1, 'src/index.js:1:1: B20 form is not built yet\nfaults: 1\n');
+  build({ 'src/index.js': Buffer.alloc(MOST_BYTES, '@') }, 1, 'src/index.js:1:1: B3 stray character\nfaults: 1\n');
   build({ 'c.json': Buffer.alloc(MOST_BYTES + 1) }, 2, 'c.json:1:1: config TooLong\n');
 }
 
@@ -52,9 +52,23 @@ function badWords() {
 }
 
 function badConfiguration() {
-  const texts = ['', '{}', '{"entry":"src/index.js"}', '{"entry":"./src/index.mjs"}', `${ENTRY}\n\n`, ` ${ENTRY}`,
-    '{"entry": "./src/index.js"}', '{"entry":"./src/index.js","mode":"none"}'];
-  for (const text of texts) build({ 'c.json': text, 'src/index.js': '' }, 2, 'c.json:1:1: config NotYet\n');
+  const configurations = [
+    ['', '1:1: config Json'],
+    ['{"entry":"./src/index.js",}', '1:27: config Json'],
+    ['[]', '1:1: config WrongType'],
+    ['{"entry":5}', '1:10: config WrongType'],
+    ['{"entry":"./src/index.js",\n "mode":"fast"}', '2:9: config OutOfRange'],
+    ['{"entry":"./src/index.js","plugins":[]}', '1:27: config UnknownKey'],
+    ['{"optimization":{"splitChunks":{"cacheGroups":{"a":{"name":"x"},"b":{"name":"x"}}}}}', '1:77: config Repeated'],
+  ];
+  for (const [text, told] of configurations) build({ 'c.json': text, 'src/index.js': '' }, 2, `c.json:${told}\n`);
+}
+
+function namesThatClash() {
+  build({ 'c.json': '{"output":{"filename":"a.js"},"entry":{"x":"./src/x.js","y":"./src/y.js"}}', 'src/x.js': '', 'src/y.js': '' }, 1,
+    'c.json:1:1: B17 asset "a.js" of chunk 0 and chunk 1\nfaults: 1\n');
+  build({ 'src/index.js': 'import(/* webpackChunkName: "main" */ "./x.js");', 'src/x.js': '' }, 1,
+    'src/index.js:1:39: B13 chunk name "main" is an entry\nfaults: 1\n');
 }
 
 function missingConfiguration() {
@@ -78,7 +92,7 @@ function earlierBuildStays() {
   const folder = projectOf({ 'c.json': ENTRY, 'src/index.js': '' });
   assert.equal(chunkpack(folder, WORDS).status, 0);
   const before = emitted(folder);
-  fs.writeFileSync(`${folder}/src/index.js`, 'let a;');
+  fs.writeFileSync(`${folder}/src/index.js`, 'import a;');
   assert.equal(chunkpack(folder, WORDS).status, 1);
   assert.deepEqual(emitted(folder), before);
 }
@@ -93,7 +107,8 @@ function noPlaceForLines() {
 
 export async function checkEnds(tally) {
   await tally.check('a request that names no file is B9', unresolved);
-  await tally.check('a text that is not read is B20', notYet);
+  await tally.check('faults of texts', textFaults);
+  await tally.check('names that clash', namesThatClash);
   await tally.check('texts above the limit', tooLong);
   await tally.check('words out of the grammar', badWords);
   await tally.check('a configuration without a meaning', badConfiguration);

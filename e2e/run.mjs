@@ -5,7 +5,9 @@ import { checkProject } from './built.mjs';
 import { checkProgram } from './command.mjs';
 import { checkEnds } from './ends.mjs';
 import { checkInstall } from './install.mjs';
+import { checkLazy } from './lazy.mjs';
 import { checkLoading } from './loading.mjs';
+import { checkPackages } from './packages.mjs';
 import { checkPlaces } from './places.mjs';
 import { projects } from './projects.mjs';
 import { checkRelease } from './release.mjs';
@@ -19,6 +21,8 @@ await tally.check('the program is there', checkProgram);
 if (tally.failed === 0) {
   for (const { name, make } of projects) await checkProject(tally, name, make(), browser);
   await checkLoading(tally);
+  await checkLazy(tally);
+  await checkPackages(tally);
   await checkEnds(tally);
   await checkWords(tally);
   await checkPlaces(tally);

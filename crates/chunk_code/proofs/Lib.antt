@@ -1,2 +1,3 @@
-pub mod Members
-pub mod Parts
+mod Lines
+mod Parts
+mod Rows

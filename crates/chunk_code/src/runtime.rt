@@ -1,5 +1,12 @@
-ghost use Rattle.std.specs.Prelude.{◌≡◌};
+ghost use Rattle.std.specs.Prelude.{◌≡◌, ◌++◌, map, OnOk, IfOk};
 ghost use Rattle.chunk_code.specs.Runtime.{runtime_functions};
+ghost use Rattle.chunk_code.specs.Texts.{file_text, runtime_text_of};
+ghost use Rattle.module_code.specs.Quoted.{with_commas};
+
+use fault_place::{NoMemory, Text};
+use module_code::{SealView, add_comma, add_quoted};
+use pack_util::{add, add_number};
+use std::alloc::Global;
 
 /// The functions that load chunks and run modules, written once for each page.
 #[tactic(auto, unfolding(crate::specs::Runtime::runtime_functions))]
@@ -50,4 +57,53 @@ return P.p[k];
 };
 })(self);
 "#
+}
+
+fn add_file(text: &mut Vec<u8>, file: &(u32, Text)) -> Result<(), NoMemory>
+    ensures { OnOk result (text.new.items ≡ text.old.items ++ file_text file.now) }
+{
+    add_number(text, file.0 as u64)?;
+    add(text, b":")?;
+    add_quoted(text, file.1.get())
+}
+
+fn add_files(text: &mut Vec<u8>, files: &[(u32, Text)]) -> Result<(), NoMemory>
+    ensures { OnOk result (text.new.items ≡ text.old.items ++ with_commas (map file_text files.now)) }
+{
+    for (place, file) in files.iter().enumerate() {
+        add_comma(text, place)?;
+        add_file(text, file)?;
+    }
+    Ok(())
+}
+
+/// Adds what a page needs before its first chunk.
+pub fn add_runtime(
+    text: &mut Vec<u8>,
+    public_path: &str,
+    files: &[(u32, Text)],
+) -> Result<(), NoMemory>
+    ensures { OnOk result (text.new.items ≡ text.old.items ++ runtime_text_of public_path.now files.now) }
+{
+    add(text, runtime_functions().as_bytes())?;
+    add(text, b"self.__chunkpack.u=")?;
+    add_quoted(text, public_path)?;
+    add(text, b";\nself.__chunkpack.f={")?;
+    add_files(text, files)?;
+    add(text, b"};\n")?;
+    Ok(())
+}
+
+/// What a page needs before its first chunk: the functions, the public path, and the file of each chunk that is no entry's,
+/// by the chunk's id.
+pub fn runtime_text(
+    alloc: Global,
+    view: &SealView<'_>,
+    files: &[(u32, Text)],
+) -> Result<Vec<u8>, NoMemory>
+    ensures { IfOk result (λ text. text.items ≡ runtime_text_of view.now.config.public_path files.now) }
+{
+    let mut text = Vec::new(alloc);
+    add_runtime(&mut text, view.config.public_path.get(), files)?;
+    Ok(text)
 }

@@ -7,7 +7,7 @@ use Rattle.path_text.specs.declared.path_end.PathEnd.{PathEnd}
 use Rattle.cli_words.specs.Numbers.{IsNumber}
 use Rattle.cli_words.specs.Words.{AreWorkers, Gives, IsCommand, IsFilePath, IsJob, Word}
 use Rattle.cli_words.specs.inner.Line.{Given, after_word, may_end, no_words}
-use Rattle.cli_words.specs.inner.Reading.{build_at, build_of, job_in, job_of, named_job, number_of, only, sample_of, workers_of}
+use Rattle.cli_words.specs.inner.Reading.{build_at, build_of, job_in, job_of, named_job, number_within, only, sample_of, workers_of}
 use Rattle.cli_words.specs.declared.job.Job.{Job}
 use Rattle.cli_words.specs.declared.job.Job.TheVariants.{Build, Sample}
 use Rattle.cli_words.proofs.Lines.{gives_taken, taken_gives}
@@ -41,13 +41,13 @@ job_read words (Sample n number) is =
 
 -- ---- what is read is what they ask for
 
-by_number : (value : Word) (found number : Option ℕ) → number_of 1 32 value ≡ found → option_map (λ n. Some n) found ≡ Some number → AreWorkers (value ∷ []) number
+by_number : (value : Word) (found number : Option ℕ) → number_within 1 32 value ≡ found → option_map (λ n. Some n) found ≡ Some number → AreWorkers (value ∷ []) number
 by_number value None number is e = absurd (cc)
 by_number value (Some n) number is e = subst (AreWorkers (value ∷ [])) (some_same (Some n) number e) (value, refl, is_number 1 32 value n is)
 
 are_workers : (values : List Word) (number : Option ℕ) → workers_of values ≡ Some number → AreWorkers values number
 are_workers [] number e = subst (AreWorkers []) (some_same None number e) refl
-are_workers (value ∷ []) number e = by_number value (number_of 1 32 value) number refl e
+are_workers (value ∷ []) number e = by_number value (number_within 1 32 value) number refl e
 are_workers (value ∷ other ∷ rest) number e = absurd (cc)
 
 module _ (command : Word) (rest : List Word) (word : Word) (values : List Word) (number : Option ℕ) (gives : Gives rest (word ∷ []) values) (workers : AreWorkers values number) where
@@ -68,7 +68,7 @@ module _ (command : Word) (rest : List Word) (word : Word) (values : List Word) 
       })
   built name (Err end) job is e = absurd (cc)
 
-  sampled : (found : Option ℕ) (job : Job) → number_of 1 20_000 word ≡ found → option_map (λ n. Sample n number) found ≡ Some job → Asks (codes "sample") job
+  sampled : (found : Option ℕ) (job : Job) → number_within 1 20_000 word ≡ found → option_map (λ n. Sample n number) found ≡ Some job → Asks (codes "sample") job
   sampled None job is e = absurd (cc)
   sampled (Some n) job is e =
       subst (Asks (codes "sample")) (some_same (Sample n number) job e) (record {
@@ -82,7 +82,7 @@ module _ (command : Word) (rest : List Word) (word : Word) (values : List Word) 
       })
 
   by_sample : (b : Bool) (job : Job) → bytes_eq command (codes "sample") ≡ b → cond b (sample_of word number) None ≡ Some job → Asks command job
-  by_sample true job is e = subst (λ name. Asks name job) (sym ((bytes_eq-Decides command (codes "sample")).0 is)) (sampled (number_of 1 20_000 word) job refl e)
+  by_sample true job is e = subst (λ name. Asks name job) (sym ((bytes_eq-Decides command (codes "sample")).0 is)) (sampled (number_within 1 20_000 word) job refl e)
   by_sample false job is e = absurd (cc)
 
   by_build : (b : Bool) (job : Job) → bytes_eq command (codes "build") ≡ b → cond b (build_of word number) (cond (bytes_eq command (codes "sample")) (sample_of word number) None) ≡ Some job → Asks command job

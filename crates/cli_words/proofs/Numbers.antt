@@ -5,7 +5,7 @@ use Rattle.std.specs.Str.Parse.{digits_value, ParsesUnsigned}
 use Rattle.std.proofs.lemmas.Bool.{lt-leb, le-leb, leb-true}
 use Rattle.std.proofs.lemmas.Str.Parse.{IsNumeralModel, numerals_by_value, parse_digits, tells_all_ascii_digits}
 use Rattle.cli_words.specs.Numbers.{IsNumber}
-use Rattle.cli_words.specs.inner.Reading.{has_digits, number_of, within}
+use Rattle.cli_words.specs.inner.Reading.{has_digits, number_within, within}
 
 own : IsNumeralModel (λ ds. all_ascii_digits ds ≡ true) (digits_value 10)
 own = numerals_by_value _ tells_all_ascii_digits
@@ -30,7 +30,7 @@ third false true false e = e
 third false false false e = e
 
 pub not_read : {E : Type 0} (low high : ℕ) (word : List ℕ) (e : E) → ParsesUnsigned 32 10 word (Err e) → has_digits word ≡ true → high < 2 ^ 32 →
-    None ≡ number_of low high word
+    None ≡ number_within low high word
 not_read low high [] e h digits fits = refl
 not_read {E} low high (digit ∷ rest) e h digits fits =
     let all : all_ascii_digits (digit ∷ rest) ≡ true = third (leb 1 (length (digit ∷ rest))) (leb (length (digit ∷ rest)) 9) (all_ascii_digits (digit ∷ rest)) digits in
@@ -40,7 +40,7 @@ not_read {E} low high (digit ∷ rest) e h digits fits =
 
 -- ---- a number is what is read
 
-pub number_read : (low high : ℕ) (word : List ℕ) (number : ℕ) → IsNumber low high word number → number_of low high word ≡ Some number
+pub number_read : (low high : ℕ) (word : List ℕ) (number : ℕ) → IsNumber low high word number → number_within low high word ≡ Some number
 number_read low high word number is =
     let some : leb 1 (length word) ≡ true = le-leb 1 (length word) is.some in
     let few : leb (length word) 9 ≡ true = le-leb (length word) 9 is.few in
@@ -72,5 +72,5 @@ by_digits low high word number true true false some few digits e = absurd (cc)
 by_digits low high word number true false c some few digits e = absurd (cc)
 by_digits low high word number false b c some few digits e = absurd (cc)
 
-pub is_number : (low high : ℕ) (word : List ℕ) (number : ℕ) → number_of low high word ≡ Some number → IsNumber low high word number
+pub is_number : (low high : ℕ) (word : List ℕ) (number : ℕ) → number_within low high word ≡ Some number → IsNumber low high word number
 is_number low high word number e = by_digits low high word number (leb 1 (length word)) (leb (length word) 9) (all_ascii_digits word) refl refl refl e

@@ -88,7 +88,7 @@ IsJob words (Build config number) = IsCommand (codes "build") (IsFilePath config
 IsJob words (Sample n number) = IsCommand (codes "sample") (λ word. IsNumber 1 20_000 word n) number words
 
 -- Usage exactly where the words are no job. Want of memory is free.
-abbrev pub Answers : List Word → Result Job WordsEnd → Type 0
-Answers words result =
+abbrev pub AnswersWords : List Word → Result Job WordsEnd → Type 0
+AnswersWords words result =
     MatchResult result (IsJob words)
     (λ end. (end ≡ NoMemory) ⊎ ((end ≡ Usage) × ((job : Job) → IsJob words job → ⊥)))

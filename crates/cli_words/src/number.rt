@@ -2,11 +2,11 @@
 ghost use Rattle.std.specs.Prelude.{◌≡◌, ◌<◌, ◌^◌, IsTrue};
 ghost use Rattle.std.specs.Char.{is_ascii_digit};
 ghost use Rattle.std.specs.List.{list_all};
-ghost use Rattle.cli_words.specs.inner.Reading.{has_digits, number_of};
+ghost use Rattle.cli_words.specs.inner.Reading.{has_digits, number_within};
 
 /// The number that a word writes, where it is one within bounds.
 pub(crate) fn number_of(word: &str, low: u32, high: u32) -> Option<u32>
-    ensures { result ≡ number_of low high word.now }
+    ensures { result ≡ number_within low high word.now }
 {
     if !has_digits(word) {
         return None;
@@ -29,7 +29,7 @@ fn has_only_digits(word: &str) -> bool
 
 fn within(word: &str, low: u32, high: u32) -> Option<u32>
     requires { IsTrue (has_digits word.now) }
-    ensures { result ≡ number_of low high word.now }
+    ensures { result ≡ number_within low high word.now }
 {
     match word.parse::<u32>() {
         Ok(number) if low <= number && number <= high => Some(number),

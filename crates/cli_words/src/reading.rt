@@ -1,6 +1,6 @@
 //! Words as the command that they name.
 ghost use Rattle.std.specs.Prelude.{◌≡◌, map, string_bytes, option_copied, IfOk};
-ghost use Rattle.cli_words.specs.Words.{Answers};
+ghost use Rattle.cli_words.specs.Words.{AnswersWords};
 ghost use Rattle.cli_words.specs.inner.Reading.{build_of, job_in, job_of, named_job, only, sample_of, workers_of};
 
 use crate::line::{Line, read_line};
@@ -18,7 +18,7 @@ const MOST_MODULES: u32 = 20_000;
 
 /// What the words behind the program's name ask for.
 pub fn read_words(alloc: Global, words: &[String]) -> Result<Job, WordsEnd>
-    ensures { Answers (map string_bytes words.now) result }
+    ensures { AnswersWords (map string_bytes words.now) result }
 {
     match read_job(alloc, words)? {
         Some(job) => Ok(job),

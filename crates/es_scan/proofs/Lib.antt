@@ -1,7 +1,10 @@
 pub mod FlawLemmas
+pub mod HashbangLemmas
 pub mod Mapped
 pub mod NameLemmas
 pub mod NumberLemmas
+pub mod OrderLemmas
 pub mod QuietLemmas
 pub mod ScanLemmas
+pub mod TargetLemmas
 pub mod WholeLemmas

@@ -5,7 +5,7 @@ use Rattle.form_shapes.specs.Standing.{standing_at, keyword_at, is_behind}
 use Rattle.form_shapes.specs.declared.sign.Sign.TheVariants as sign
 use Rattle.form_shapes.specs.declared.standing.Standing.{Standing}
 use Rattle.form_shapes.specs.declared.standing.Standing.TheVariants.{Nothing}
-use Rattle.es_scan.specs.Flaws.{fault_of}
+use Rattle.es_scan.specs.Flaws.{fault_of_flaw}
 use Rattle.es_scan.specs.Quiet.{IsQuiet, quiet_scan}
 use Rattle.es_scan.specs.Scan.{scan_of}
 use Rattle.es_scan.specs.inner.Given.{joined, given_upto}
@@ -32,5 +32,5 @@ quiet_upto text tokens (suc at) quiet =
 pub quiet_whole : (path text : List ℕ) (tokens : List Token) → IsQuiet text tokens → scan_of path text tokens ≡ quiet_scan text
 unfolding scan_of
 quiet_whole path text tokens quiet =
-    ap (λ given. shown given (map (fault_of path text) given.flaws)) (quiet_upto text tokens (length tokens) quiet)
+    ap (λ given. shown given (map (fault_of_flaw path text) given.flaws)) (quiet_upto text tokens (length tokens) quiet)
     ∙ rw append-nil refl

@@ -10,7 +10,7 @@ use Rattle.form_shapes.specs.declared.standing.Standing.TheVariants.{Nothing}
 use Rattle.es_scan.specs.Binds.{binds_by}
 use Rattle.es_scan.specs.Edits.{edits_by}
 use Rattle.es_scan.specs.Exports.{exports_by}
-use Rattle.es_scan.specs.Flaws.{flaws_by, fault_of}
+use Rattle.es_scan.specs.Flaws.{flaws_by, fault_of_flaw}
 use Rattle.magic_comments.specs.Magic.{magic_by}
 use Rattle.fault_place.specs.declared.fault.Fault.{Fault}
 use Rattle.es_scan.specs.declared.scanned.Scan.{Scan}
@@ -152,8 +152,8 @@ shown given faults = record {
 
 -- once all tokens are read
 pub whole_scan : (path text : List ℕ) (tokens : List Token) (state : State) (faults : List Fault)
-    → IsUpto text tokens (length tokens) state → faults ≡ map (fault_of path text) state.given.flaws
+    → IsUpto text tokens (length tokens) state → faults ≡ map (fault_of_flaw path text) state.given.flaws
     → shown state.given faults ≡ scan_of path text tokens
 unfolding scan_of
 whole_scan path text tokens state faults held placed =
-    ap (shown state.given) placed ∙ ap (λ given. shown given (map (fault_of path text) given.flaws)) held.given
+    ap (shown state.given) placed ∙ ap (λ given. shown given (map (fault_of_flaw path text) given.flaws)) held.given

@@ -14,7 +14,7 @@ use Rattle.form_shapes.specs.declared.shape.Shape.{Shape}
 use Rattle.form_shapes.specs.declared.shape.Shape.TheVariants as shape
 use Rattle.form_shapes.specs.declared.standing.Standing.{Standing}
 use Rattle.form_shapes.specs.declared.standing.Standing.TheVariants.{Nothing, Declaration, ImportCall, RequireCall, BadForm, OddImport, OddRequire}
-use Rattle.graph_types.specs.Whole.{EditsWell, ExportsWell, IsItem, declares, calls}
+use Rattle.graph_types.specs.Whole.{EditsWell, ExportsWell, IsItem, LieInOrder, declares, calls}
 use Rattle.graph_types.specs.declared.binding.Bind.{Bind}
 use Rattle.graph_types.specs.declared.binding.Export.{Export}
 use Rattle.graph_types.specs.declared.binding.Star.{Star}
@@ -26,7 +26,7 @@ use Rattle.magic_comments.specs.declared.magic.Magic.{Magic}
 use Rattle.es_scan.specs.Binds.{binds_by, named_bind, shape_binds}
 use Rattle.es_scan.specs.Default.{default_at}
 use Rattle.es_scan.specs.Edits.{call_edit, default_edits_by, edits_by, fixed, hashbang_edits, is_default, is_removed}
-use Rattle.es_scan.specs.Exports.{exports_by, from_export, local_export, shape_exports, variable_export}
+use Rattle.es_scan.specs.Exports.{exports_by, shape_exports, specifier_export, variable_export}
 use Rattle.es_scan.specs.Items.{declared_kind, item_by, item_of, span_of}
 use Rattle.es_scan.specs.Scan.{upto, magic_at, items_at, item_number, binds_at, exports_at, stars_at, edits_at, scan_of}
 use Rattle.es_scan.specs.Stars.{shape_stars, stars_by}
@@ -65,11 +65,11 @@ shape_well items text tokens item at form s known = by s known
     renamed : (k : ℕ) → IsItem declares items item → AllByRecursion (λ bind. IsItem declares items bind.item) (map (named_bind text item) (specifiers text tokens k))
     renamed k named = all_map (λ bind. IsItem declares items bind.item) (named_bind text item) (specifiers text tokens k) (λ part. named)
 
-    passed_on : (k : ℕ) → IsItem declares items item → AllByRecursion (λ export. ExportsWell items export.from) (map (from_export text item) (specifiers text tokens k))
-    passed_on k named = all_map (λ export. ExportsWell items export.from) (from_export text item) (specifiers text tokens k) (λ part. named)
+    passed_on : (k : ℕ) → IsItem declares items item → AllByRecursion (λ export. ExportsWell items export.from) (map (specifier_export text (Some item)) (specifiers text tokens k))
+    passed_on k named = all_map (λ export. ExportsWell items export.from) (specifier_export text (Some item)) (specifiers text tokens k) (λ part. named)
 
-    own : (k : ℕ) → AllByRecursion (λ export. ExportsWell items export.from) (map (local_export text) (specifiers text tokens k))
-    own k = all_map (λ export. ExportsWell items export.from) (local_export text) (specifiers text tokens k) (λ part. tt)
+    own : (k : ℕ) → AllByRecursion (λ export. ExportsWell items export.from) (map (specifier_export text None) (specifiers text tokens k))
+    own k = all_map (λ export. ExportsWell items export.from) (specifier_export text None) (specifiers text tokens k) (λ part. tt)
 
     variables : (k : ℕ) → AllByRecursion (λ export. ExportsWell items export.from) (map (variable_export text) (declarators text tokens k))
     variables k = all_map (λ export. ExportsWell items export.from) (variable_export text) (declarators text tokens k) (λ part. tt)
@@ -304,12 +304,13 @@ module _ (text : List ℕ) (tokens : List Token) where
   places_here within at = places_by within at (magic_at text tokens at) (standing_at text tokens at)
 
   pub whole : (path : List ℕ) → length text ≤ MAX_TEXT → AreInOrder text tokens → length tokens ≤ length text
-      → IsWholeScan text (scan_of path text tokens)
+      → LieInOrder 0 (length text) (hashbang_edits text ++ upto (edits_at text tokens) (length tokens)) → IsWholeScan text (scan_of path text tokens)
   unfolding scan_of items
-  whole path short order count = record {
+  whole path short order count spans = record {
     few = omega (arith, few_items text tokens (length tokens));
     places = all_upto (λ item. item.at ≤ length text) (items_at text tokens) (length tokens)
         (λ at there. places_here (starts_within order) at);
+    spans = spans;
     loads = all_append (λ edit. EditsWell items edit.put) (hashbang_edits text) (upto (edits_at text tokens) (length tokens))
         hashbang_well (all_upto (λ edit. EditsWell items edit.put) (edits_at text tokens) (length tokens) edits_here);
     binds = all_upto (λ bind. IsItem declares items bind.item) (binds_at text tokens) (length tokens) (λ at there. (well_here at there).in_binds);

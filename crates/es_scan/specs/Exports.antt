@@ -1,5 +1,5 @@
 -- The names that a module exports (ECMA-262 16.2.3 ExportEntries).
-use Rattle.std.specs.Prelude.{ℕ, ◌+◌, ◌-◌, List, [], ◌∷◌, map, codes}
+use Rattle.std.specs.Prelude.{ℕ, ◌+◌, ◌-◌, List, [], ◌∷◌, Option, None, Some, map, codes}
 use Rattle.es_tokens.specs.declared.token.Token.{Token}
 use Rattle.form_shapes.specs.Source.{text_at}
 use Rattle.form_shapes.specs.Names.{specifiers}
@@ -10,6 +10,7 @@ use Rattle.form_shapes.specs.declared.shape.Shape.TheVariants as shape
 use Rattle.form_shapes.specs.declared.standing.Standing.{Standing}
 use Rattle.form_shapes.specs.declared.standing.Standing.TheVariants.{Declaration}
 use Rattle.graph_types.specs.declared.binding.Export.{Export}
+use Rattle.graph_types.specs.declared.binding.ExportFrom.{ExportFrom}
 use Rattle.graph_types.specs.declared.binding.ExportFrom.TheVariants.{Local, Name, Space}
 use Rattle.es_scan.specs.Default.{default_at}
 use Rattle.es_scan.specs.Names.{left_name, right_name}
@@ -33,18 +34,17 @@ default_export text tokens at =
 abbrev pub own_export : List ℕ → Export
 own_export name = record { name = name; from = Local name }
 
--- by a specifier, of the module that an item names
-abbrev pub from_export : List ℕ → ℕ → List Token → Export
-from_export text item part = record { name = right_name text part; from = Name item (left_name text part) }
+-- a name of the module that an item names, or without one of this module
+abbrev pub specifier_from : Option ℕ → List ℕ → ExportFrom
+specifier_from (Some item) name = Name item name
+specifier_from None name = Local name
 
-abbrev pub local_export : List ℕ → List Token → Export
-local_export text part = record { name = right_name text part; from = Local (left_name text part) }
+abbrev pub specifier_export : List ℕ → Option ℕ → List Token → Export
+specifier_export text item part = record { name = right_name text part; from = specifier_from item (left_name text part) }
 
-abbrev pub names_from : List ℕ → List Token → ℕ → ℕ → List Export
-names_from text tokens item at = map (from_export text item) (specifiers text tokens at)
-
-abbrev pub names_exports : List ℕ → List Token → ℕ → List Export
-names_exports text tokens at = map (local_export text) (specifiers text tokens at)
+-- of the specifiers in the braces at a token
+abbrev pub names_exports : List ℕ → List Token → Option ℕ → ℕ → List Export
+names_exports text tokens item at = map (specifier_export text item) (specifiers text tokens at)
 
 abbrev pub variable_export : List ℕ → List Token → Export
 variable_export text part = own_export (left_name text part)
@@ -58,8 +58,8 @@ declared_exports text tokens form = own_export (text_at text tokens (form.parts 
 
 abbrev pub shape_exports : List ℕ → List Token → ℕ → ℕ → Form → Shape → List Export
 shape_exports text tokens item at form shape.SpaceExport = space_export text tokens item (at + 3) ∷ []
-shape_exports text tokens item at form shape.NamesFromExport = names_from text tokens item (at + 1)
-shape_exports text tokens item at form shape.NamesExport = names_exports text tokens (at + 1)
+shape_exports text tokens item at form shape.NamesFromExport = names_exports text tokens (Some item) (at + 1)
+shape_exports text tokens item at form shape.NamesExport = names_exports text tokens None (at + 1)
 shape_exports text tokens item at form shape.DefaultExport = default_export text tokens at ∷ []
 shape_exports text tokens item at form shape.VarExport = variables_exports text tokens (at + 2)
 shape_exports text tokens item at form shape.LetExport = variables_exports text tokens (at + 2)

@@ -38,5 +38,5 @@ repeats offset earlier [] = []
 repeats offset earlier (name ∷ names) = repeat_of offset earlier name ++ repeats offset (earlier ++ name ∷ []) names
 
 -- the fault of a flaw in the text at a path
-abbrev pub fault_of : List ℕ → List ℕ → Flaw → Fault
-fault_of path text flaw = record { place = place_in path text flaw.offset; kind = flaw.kind; detail = flaw.detail }
+abbrev pub fault_of_flaw : List ℕ → List ℕ → Flaw → Fault
+fault_of_flaw path text flaw = record { place = place_in path text flaw.offset; kind = flaw.kind; detail = flaw.detail }

@@ -12,7 +12,7 @@ use Rattle.graph_types.specs.declared.note.Note.{Note}
 use Rattle.es_scan.specs.Binds.{binds_by}
 use Rattle.es_scan.specs.Edits.{edits_by, hashbang_edits}
 use Rattle.es_scan.specs.Exports.{exports_by}
-use Rattle.es_scan.specs.Flaws.{flaws_by, repeats, fault_of}
+use Rattle.es_scan.specs.Flaws.{flaws_by, repeats, fault_of_flaw}
 use Rattle.es_scan.specs.Items.{item_by}
 use Rattle.magic_comments.specs.Magic.{magic_by}
 use Rattle.es_scan.specs.Notes.{notes_by}
@@ -83,6 +83,6 @@ scan_of path text tokens = record {
   stars = upto (stars_at text tokens) (length tokens);
   edits = hashbang_edits text ++ upto (edits_at text tokens) (length tokens);
   notes = upto (notes_at text tokens) (length tokens);
-  faults = map (fault_of path text) (upto (flaws_at text tokens) (length tokens));
+  faults = map (fault_of_flaw path text) (upto (flaws_at text tokens) (length tokens));
   es = any_upto (declares_at text tokens) (length tokens);
 }

@@ -1,5 +1,5 @@
 ghost use Rattle.std.specs.Prelude.{◌≡◌, ◌+◌, ◌<◌, ◌^◌, IfOk, map};
-ghost use Rattle.es_scan.specs.Exports.{space_export, default_name, default_export, own_export, from_export, local_export, names_from, names_exports, variables_exports, form_exports, exports_by};
+ghost use Rattle.es_scan.specs.Exports.{space_export, default_name, default_export, own_export, specifier_from, specifier_export, names_exports, variables_exports, form_exports, exports_by};
 
 use crate::default::{Default, default_at};
 use crate::list::one;
@@ -55,46 +55,45 @@ fn own_export(alloc: Global, name: &[u8]) -> Result<Export, NoMemory>
     })
 }
 
-fn from_export(alloc: Global, text: &[u8], item: u32, part: &[Token]) -> Result<Export, NoMemory>
-    ensures { IfOk result (λ export. export ≡ from_export text.now item part.now) }
+/// A name of the module that an item names, or without one of this module.
+fn specifier_from(item: Option<u32>, name: Text) -> ExportFrom
+    ensures { result ≡ specifier_from item name }
 {
-    Ok(Export {
-        name: owned(alloc, right_name(text, part))?,
-        from: ExportFrom::Name(item, owned(alloc, left_name(text, part))?),
-    })
-}
-
-fn local_export(alloc: Global, text: &[u8], part: &[Token]) -> Result<Export, NoMemory>
-    ensures { IfOk result (λ export. export ≡ local_export text.now part.now) }
-{
-    Ok(Export {
-        name: owned(alloc, right_name(text, part))?,
-        from: ExportFrom::Local(owned(alloc, left_name(text, part))?),
-    })
-}
-
-fn names_from(alloc: Global, source: Source, item: u32, at: usize) -> Result<Seq<Export>, NoMemory>
-    requires { at < 2 ^ 33 }
-    ensures { IfOk result
-        (λ exports. exports ≡ names_from source.entry.text.now source.entry.tokens.now item at) }
-{
-    let parts = source.specifiers(alloc, at)?;
-    let mut exports = Seq::new(alloc);
-    for part in &parts {
-        exports.push(from_export(alloc, source.text, item, part)?)?;
+    match item {
+        Some(item) => ExportFrom::Name(item, name),
+        None => ExportFrom::Local(name),
     }
-    Ok(exports)
 }
 
-fn names_exports(alloc: Global, source: Source, at: usize) -> Result<Seq<Export>, NoMemory>
+fn specifier_export(
+    alloc: Global,
+    text: &[u8],
+    item: Option<u32>,
+    part: &[Token],
+) -> Result<Export, NoMemory>
+    ensures { IfOk result (λ export. export ≡ specifier_export text.now item part.now) }
+{
+    Ok(Export {
+        name: owned(alloc, right_name(text, part))?,
+        from: specifier_from(item, owned(alloc, left_name(text, part))?),
+    })
+}
+
+/// The exports of the specifiers in the braces at a token.
+fn names_exports(
+    alloc: Global,
+    source: Source,
+    item: Option<u32>,
+    at: usize,
+) -> Result<Seq<Export>, NoMemory>
     requires { at < 2 ^ 33 }
     ensures { IfOk result
-        (λ exports. exports ≡ names_exports source.entry.text.now source.entry.tokens.now at) }
+        (λ exports. exports ≡ names_exports source.entry.text.now source.entry.tokens.now item at) }
 {
     let parts = source.specifiers(alloc, at)?;
     let mut exports = Seq::new(alloc);
     for part in &parts {
-        exports.push(local_export(alloc, source.text, part)?)?;
+        exports.push(specifier_export(alloc, source.text, item, part)?)?;
     }
     Ok(exports)
 }
@@ -135,8 +134,8 @@ fn form_exports(
 {
     match form.shape {
         Shape::SpaceExport => one(alloc, space_export(alloc, source, item, at + 3)?),
-        Shape::NamesFromExport => names_from(alloc, source, item, at + 1),
-        Shape::NamesExport => names_exports(alloc, source, at + 1),
+        Shape::NamesFromExport => names_exports(alloc, source, Some(item), at + 1),
+        Shape::NamesExport => names_exports(alloc, source, None, at + 1),
         Shape::DefaultExport => one(alloc, default_export(alloc, source, at)?),
         Shape::VarExport | Shape::LetExport | Shape::ConstExport => {
             variables_exports(alloc, source, room, at + 2)

@@ -3,7 +3,7 @@ ghost use Rattle.std.specs.List.{All};
 ghost use Rattle.es_tokens.specs.Tokens.{tokens_of};
 ghost use Rattle.form_shapes.specs.Declaration.{IsDeclaration};
 ghost use Rattle.form_shapes.specs.Standing.{standing_at};
-ghost use Rattle.es_scan.specs.Flaws.{fault_of};
+ghost use Rattle.es_scan.specs.Flaws.{fault_of_flaw};
 ghost use Rattle.magic_comments.specs.Magic.{magic_by};
 ghost use Rattle.es_scan.specs.Scan.{export_names, local_names, scan_of};
 ghost use Rattle.es_scan.specs.inner.Given.{given_by, with_repeats};
@@ -178,7 +178,7 @@ fn add_all(alloc: Global, source: Source, state: &mut State) -> Result<(), NoMem
     Ok(())
 }
 
-fn fault_of(
+fn fault_of_flaw(
     alloc: Global,
     path: &str,
     text: &[u8],
@@ -187,7 +187,7 @@ fn fault_of(
 ) -> Result<Fault, NoMemory>
     requires text { places.old ≡ text.now }
     requires within { flaw.now.offset ≤ length text.now }
-    ensures fault { IfOk result (λ fault. fault ≡ fault_of path.now text.now flaw.now) }
+    ensures fault { IfOk result (λ fault. fault ≡ fault_of_flaw path.now text.now flaw.now) }
     ensures text { places.new ≡ places.old }
 {
     Ok(Fault {
@@ -200,12 +200,12 @@ fn fault_of(
 /// Finds the line and the column of each.
 fn place_all(alloc: Global, path: &str, text: &[u8], flaws: &[Flaw]) -> Result<Seq<Fault>, NoMemory>
     requires { All (λ flaw. flaw.offset ≤ length text.now) flaws.now }
-    ensures { IfOk result (λ faults. faults ≡ map (fault_of path.now text.now) flaws.now) }
+    ensures { IfOk result (λ faults. faults ≡ map (fault_of_flaw path.now text.now) flaws.now) }
 {
     let mut places = Places::new(text);
     let mut faults = Seq::new(alloc);
     for flaw in flaws {
-        faults.push(fault_of(alloc, path, text, &mut places, flaw)?)?;
+        faults.push(fault_of_flaw(alloc, path, text, &mut places, flaw)?)?;
     }
     Ok(faults)
 }

@@ -6,7 +6,7 @@ use Rattle.es_tokens.specs.Context.{context_of}
 use Rattle.es_tokens.specs.Family.{family_of}
 use Rattle.es_tokens.specs.IsFirstFault.{IsFirstFault}
 use Rattle.es_tokens.specs.Misplaced.{closes}
-use Rattle.es_tokens.specs.Step.{Next, ends, fails, token, fail_at, passed, place, placed, token_at, token_step, step_behind, step, after_gap}
+use Rattle.es_tokens.specs.Step.{Next, ends, fails, token, fail_at, passed, place, placed_token, token_at, token_step, step_behind, step, after_gap}
 use Rattle.es_tokens.specs.Tokens.{tokens_of}
 use Rattle.es_tokens.specs.declared.context.Context.{Context}
 use Rattle.es_tokens.specs.declared.context.Opened.{Opened}
@@ -31,7 +31,7 @@ ended-within : (text : List ℕ) (closed : Bool) → offset_in (if closed then e
 ended-within text true = none text
 ended-within text false = let whole : length text ≤ length text = omega arith in whole
 
-placed-within : (text : List ℕ) (found : LexToken) (rest : List ℕ) (kind : Option TokenKind) → found.span.start ≤ length text → offset_in (placed found rest kind) ≤ length text
+placed-within : (text : List ℕ) (found : LexToken) (rest : List ℕ) (kind : Option TokenKind) → found.span.start ≤ length text → offset_in (placed_token found rest kind) ≤ length text
 placed-within text found rest None short = none text
 placed-within text found rest (Some kind) short = short
 

@@ -8,7 +8,7 @@ use Rattle.es_tokens.specs.AreTokens.{Leads, AreLexed, AreTokens}
 use Rattle.es_tokens.specs.IsFirstFault.{FailsBehind, IsFirstFault}
 use Rattle.es_tokens.specs.Context.{context_of}
 use Rattle.es_tokens.specs.Step.{Next, ends, token, fails, step}
-use Rattle.es_tokens.specs.Tokens.{follow, run, all_of, in_order, tokens_of}
+use Rattle.es_tokens.specs.Tokens.{follow, run, all_of, mated_or_fault, tokens_of}
 use Rattle.es_tokens.proofs.StepLemmas.{step-shorter}
 use Rattle.es_tokens.specs.declared.token.Token.{Token}
 use Rattle.es_tokens.specs.declared.token.LexToken.{LexToken}
@@ -73,11 +73,11 @@ tokens-one text tokens = (there, back)
     there : AreTokens text tokens → tokens_of text ≡ Ok tokens
     there h = rw (is_utf8-from_IsUtf8 text h.1.utf8, lexed-all 4096 text h.0 h.1) (ap Ok (sym h.2))
 
-    by_answer : (answer : Result (List LexToken) TokenFault) → IsUtf8 text → Told 4096 text answer → in_order text answer ≡ Ok tokens → AreTokens text tokens
+    by_answer : (answer : Result (List LexToken) TokenFault) → IsUtf8 text → Told 4096 text answer → mated_or_fault text answer ≡ Ok tokens → AreTokens text tokens
     by_answer (Ok found) utf8 told e = (found, record { utf8 = utf8; rest = told.0; leads = told.1; last = told.2 }, cc)
     by_answer (Err fault) utf8 told e = cc
 
-    by_test : (test : Bool) → is_utf8 text ≡ test → cond test (in_order text (all_of 4096 text)) (Err (record { offset = utf8_valid_len text; kind = NotUtf8 })) ≡ Ok tokens → AreTokens text tokens
+    by_test : (test : Bool) → is_utf8 text ≡ test → cond test (mated_or_fault text (all_of 4096 text)) (Err (record { offset = utf8_valid_len text; kind = NotUtf8 })) ≡ Ok tokens → AreTokens text tokens
     by_test true u e = by_answer (all_of 4096 text) (IsUtf8-from_is_utf8 text u) (all-told 4096 text) e
     by_test false u e = cc
 
@@ -95,13 +95,13 @@ fault-one text fault = (there, back)
     there (inl h) = rw (not_utf8 h.0) (ap Err (sym h.1))
     there (inr h) = rw (is_utf8-from_IsUtf8 text h.utf8, fails-all 4096 text fault h) refl
 
-    by_answer : (answer : Result (List LexToken) TokenFault) → IsUtf8 text → Told 4096 text answer → in_order text answer ≡ Err fault → FailsBehind 4096 text fault
+    by_answer : (answer : Result (List LexToken) TokenFault) → IsUtf8 text → Told 4096 text answer → mated_or_fault text answer ≡ Err fault → FailsBehind 4096 text fault
     by_answer (Ok found) utf8 told e = cc
     by_answer (Err other) utf8 told e =
         let same : other ≡ fault = cc in
         record { utf8 = utf8; found = told.0; rest = told.1; leads = told.2; last = told.3 ∙ ap fails same }
 
-    by_test : (test : Bool) → is_utf8 text ≡ test → cond test (in_order text (all_of 4096 text)) (Err (record { offset = utf8_valid_len text; kind = NotUtf8 })) ≡ Err fault → IsFirstFault text fault
+    by_test : (test : Bool) → is_utf8 text ≡ test → cond test (mated_or_fault text (all_of 4096 text)) (Err (record { offset = utf8_valid_len text; kind = NotUtf8 })) ≡ Err fault → IsFirstFault text fault
     by_test true u e = inr (by_answer (all_of 4096 text) (IsUtf8-from_is_utf8 text u) (all-told 4096 text) e)
     by_test false u e = inl ((λ h. let t = is_utf8-from_IsUtf8 text h in cc), cc)
 

@@ -1,9 +1,11 @@
 pub mod AnswerLemmas
 pub mod BlankLemmas
+pub mod BraceLemmas
 pub mod CountLemmas
 pub mod DepthLemmas
 pub mod FamilyLemmas
 pub mod FaultLemmas
+pub mod HashbangLemmas
 pub mod LanguageLemmas
 pub mod LawLemmas
 pub mod Literals

@@ -85,14 +85,15 @@ record IsSplit (first : Bool) (left begun : List ℕ) : Type 0 where
   front : List ℕ
   parts : left ≡ front ++ begun
   is_gap : HasShape (gap_at first) front
+  longest : IsLongest (has_shape (gap_at first)) left front begun
 
 gap-takes : (first : Bool) → has_shape (gap_at first) [] ≡ true
 gap-takes true = refl
 gap-takes false = refl
 
 split-by : (first : Bool) (left : List ℕ) (o : Option (List ℕ)) → LeavesLongest (has_shape (gap_at first)) left o → IsSplit first left (unwrap_or o left)
-split-by first left None h = record { front = []; parts = refl; is_gap = (shape-means (gap_at first) []).0 (gap-takes first) }
-split-by first left (Some rest) h = record { front = h.0; parts = h.1.parts; is_gap = (shape-means (gap_at first) h.0).0 h.1.holds }
+split-by first left None h = let takes = gap-takes first in let none = h [] left refl in absurd (cc)
+split-by first left (Some rest) h = record { front = h.0; parts = h.1.parts; is_gap = (shape-means (gap_at first) h.0).0 h.1.holds; longest = h.1 }
 
 split-gap : (first : Bool) (left : List ℕ) → IsSplit first left (after_gap first left)
 unfolding after_gap
@@ -104,6 +105,7 @@ pub record IsRead (text : List ℕ) (context : Context) (left : List ℕ) (found
   pub front : List ℕ
   pub parts : left ≡ gap_chars ++ (front ++ rest)
   pub is_gap : HasShape (gap_at context.first) gap_chars
+  pub longest_gap : IsLongest (has_shape (gap_at context.first)) left gap_chars (front ++ rest)
   pub some : 0 < length front
   pub start : found.span.start ≡ place text (front ++ rest)
   pub end : found.span.end ≡ place text rest
@@ -120,6 +122,7 @@ read-by text context left begun found rest s f =
       front = f.front;
       parts = s.parts ∙ ap (λ more. s.front ++ more) f.parts;
       is_gap = s.is_gap;
+      longest_gap = subst (IsLongest (has_shape (gap_at context.first)) left s.front) f.parts s.longest;
       some = f.some;
       start = f.start ∙ ap (place text) f.parts;
       end = f.end;

@@ -5,7 +5,7 @@ use Rattle.std.proofs.lemmas.Bool.{eqb-true}
 use Rattle.std.proofs.lemmas.Str.{encodes-append, encode_ascii}
 use Rattle.es_tokens.specs.ClassShape.{starts_with, class_shape}
 use Rattle.es_tokens.specs.Language.{HasShape}
-use Rattle.es_tokens.specs.QuotedShape.{quoted}
+use Rattle.es_tokens.specs.QuotedShape.{string_shape}
 use Rattle.es_tokens.specs.Shape.{has_shape}
 use Rattle.es_tokens.specs.TokenText.{IsQuoted}
 use Rattle.es_tokens.proofs.LanguageLemmas.{shape-means}
@@ -16,7 +16,7 @@ use Rattle.es_tokens.specs.declared.token.TokenClass.TheVariants.{Str}
 abbrev Inner : ℕ → List ℕ → Type 0
 Inner quote front = (inner : List ℕ) × (front ≡ quote ∷ inner ++ quote ∷ [])
 
-quoted-inner : (quote : ℕ) (front : List ℕ) → HasShape (quoted quote) front → Inner quote front
+quoted-inner : (quote : ℕ) (front : List ℕ) → HasShape (string_shape quote) front → Inner quote front
 quoted-inner quote front h =
     let first : h.3.0 ≡ quote = eqb-true h.3.0 quote h.3.1 in
     let last : h.4.4.0 ≡ quote = eqb-true h.4.4.0 quote h.4.4.1 in
@@ -24,7 +24,7 @@ quoted-inner quote front h =
     let closes : h.4.1 ≡ quote ∷ [] = h.4.4.2 ∙ ap (λ c. c ∷ []) last in
     (h.4.0, h.2 ∙ ap (λ x. x ++ h.1) opens ∙ ap (λ x. quote ∷ x) (h.4.2 ∙ ap (λ x. h.4.0 ++ x) closes))
 
-quoted-bytes : (quote : ℕ) (bytes front : List ℕ) → quote < 128 → (quote ≡ 0x22) ⊎ (quote ≡ 0x27) → bytes ≡ encodes front → scalars front ≡ true → HasShape (quoted quote) front → IsQuoted bytes
+quoted-bytes : (quote : ℕ) (bytes front : List ℕ) → quote < 128 → (quote ≡ 0x22) ⊎ (quote ≡ 0x27) → bytes ≡ encodes front → scalars front ≡ true → HasShape (string_shape quote) front → IsQuoted bytes
 quoted-bytes quote bytes front ascii is_quote bytes_are all h =
     let i = quoted-inner quote front h in
     let byte = encode_ascii quote ascii in
@@ -39,9 +39,9 @@ quoted-bytes quote bytes front ascii is_quote bytes_are all h =
       utf8 = (i.0, (scalars-front i.0 (quote ∷ []) inside, refl));
     }
 
-by-quote : (bytes front : List ℕ) (test : Bool) → bytes ≡ encodes front → scalars front ≡ true → has_shape (cond test (quoted 0x22) (quoted 0x27)) front ≡ true → IsQuoted bytes
-by-quote bytes front true e all h = quoted-bytes 0x22 bytes front (lit< tt) (inl refl) e all ((shape-means (quoted 0x22) front).0 h)
-by-quote bytes front false e all h = quoted-bytes 0x27 bytes front (lit< tt) (inr refl) e all ((shape-means (quoted 0x27) front).0 h)
+by-quote : (bytes front : List ℕ) (test : Bool) → bytes ≡ encodes front → scalars front ≡ true → has_shape (cond test (string_shape 0x22) (string_shape 0x27)) front ≡ true → IsQuoted bytes
+by-quote bytes front true e all h = quoted-bytes 0x22 bytes front (lit< tt) (inl refl) e all ((shape-means (string_shape 0x22) front).0 h)
+by-quote bytes front false e all h = quoted-bytes 0x27 bytes front (lit< tt) (inr refl) e all ((shape-means (string_shape 0x27) front).0 h)
 
 pub string-quoted : (bytes : List ℕ) (class : TokenClass) (begun front : List ℕ) → class ≡ Str → bytes ≡ encodes front → scalars front ≡ true →
     has_shape (class_shape class begun) front ≡ true → IsQuoted bytes

@@ -1,9 +1,9 @@
 -- Where tokens stand in a text.
 use Rattle.std.proofs.Common.{ℕ, zero, suc, ◌≡◌, ◌+◌, ◌<◌, ◌≤◌, Bool, true, false, List, [], ◌∷◌, ◌++◌, length, take, drop, refl, sym, ap, subst, ◌∙◌, arith, length-append, append_assoc, append-nil}
 use Rattle.std.proofs.Math.Seq.{drop-append_seam}
-use Rattle.std.proofs.Math.Utf8.{scalars, encodes}
+use Rattle.std.proofs.Math.Utf8.{encode, encodes, scalars}
 use Rattle.std.proofs.lemmas.Bool.{eq-eqb, ne_eqb}
-use Rattle.std.proofs.lemmas.Str.{chars-encodes, encodes-append, encodes-chars, scalars-chars, length-le-encodes}
+use Rattle.std.proofs.lemmas.Str.{chars-encodes, cons_from_encodes, encodes-append, encodes-chars, scalars-chars, length-le-encodes}
 use Rattle.std.specs.List.{AllByRecursion}
 use Rattle.std.specs.Prelude.{◌==◌, ◌-◌, slice_range}
 use Rattle.std.specs.Str.{chars, IsUtf8}
@@ -11,14 +11,16 @@ use Rattle.es_tokens.specs.AreTokens.{Leads, AreTokens}
 use Rattle.es_tokens.specs.Characters.{holds_terminator}
 use Rattle.es_tokens.specs.ClassShape.{class_shape, IsLongestOfClass}
 use Rattle.es_tokens.specs.Context.{context_of, is_none}
+use Rattle.es_tokens.specs.GapShape.{first_gap}
 use Rattle.es_tokens.specs.IsLongest.{IsLongest}
 use Rattle.es_tokens.specs.Language.{HasShape}
 use Rattle.es_tokens.specs.Mated.{mate_by, mated_token, with_mate, mated}
 use Rattle.es_tokens.specs.Shape.{has_shape}
-use Rattle.es_tokens.specs.Spans.{EachBehind, AreInOrder, chars_between, IsGap, GapsBetween, NewLinesByGaps}
+use Rattle.es_tokens.specs.Spans.{EachBehind, AreInOrder, EndsLineBefore, chars_between, IsGap, GapsBetween, NewLinesByGaps}
 use Rattle.es_tokens.specs.Step.{place}
 use Rattle.es_tokens.specs.TokenRole.{role_in}
 use Rattle.es_tokens.specs.TokenText.{token_bytes, IsQuoted}
+use Rattle.es_tokens.proofs.HashbangLemmas.{line-ends, EndsIn, ends-in}
 use Rattle.es_tokens.proofs.LawLemmas.{leads-count}
 use Rattle.es_tokens.proofs.PartLemmas.{gap_at, IsRead, step-reads, step-ends}
 use Rattle.es_tokens.proofs.QuotedLemmas.{string-quoted}
@@ -33,6 +35,10 @@ use Rattle.fault_place.specs.declared.number.Span.{Span}
 taken-front : (front rest : List ℕ) → take (length front) (front ++ rest) ≡ front
 taken-front [] rest = refl
 taken-front (c ∷ front) rest = ap (λ more. c ∷ more) (taken-front front rest)
+
+no-chars : (cs : List ℕ) → length cs ≤ 0 → cs ≡ []
+no-chars [] h = refl
+no-chars (c ∷ cs) h = absurd (omega arith)
 
 -- characters of a text between others, and their bytes
 record IsBetween (text before middle rest : List ℕ) : Type 0 where
@@ -80,6 +86,7 @@ record LiesAt (text : List ℕ) (from : ℕ) (class : TokenClass) (span : Span) 
   bytes : slice_range text span.start span.end ≡ encodes front
   front_scalars : scalars front ≡ true
   longest : IsLongest (has_shape (class_shape class (chars (drop span.start text)))) (chars (drop span.start text)) front (chars (drop span.end text))
+  line_ends : from ≡ 0 → (more : List ℕ) → chars text ≡ 0x23 ∷ 0x21 ∷ more → EndsLineBefore text span.start
 
 abbrev Lies : List ℕ → ℕ → Token → Type 0
 Lies text from token = LiesAt text from token.class token.span token.new_line
@@ -91,11 +98,43 @@ module _ (text before gap_chars front rest : List ℕ) (first : Bool) (found : L
   front_between : IsBetween text (before ++ gap_chars) front rest
   front_between = between text (before ++ gap_chars) front rest utf8 (parts ∙ sym (append_assoc before gap_chars (front ++ rest)))
 
-  lies-at : (place text (gap_chars ++ (front ++ rest)) == 0) ≡ first → HasShape (gap_at first) gap_chars → 0 < length front →
+  -- where nothing stands before the gap, a terminator in it ends a line of the text
+  line-before : length (encodes before) ≡ 0 → holds_terminator gap_chars ≡ true → EndsLineBefore text (place text (front ++ rest))
+  line-before none holds =
+      let empty : before ≡ [] = no-chars before (omega (arith, none, length-le-encodes before)) in
+      let e : EndsIn gap_chars = ends-in gap_chars holds in
+      let line = e.line ++ e.terminator ∷ [] in
+      let gap_is : gap_chars ≡ line ++ e.more = e.parts ∙ sym (append_assoc e.line (e.terminator ∷ []) e.more) in
+      let whole : chars text ≡ line ++ (e.more ++ (front ++ rest)) =
+      parts ∙ ap (λ (some : List ℕ). some ++ (gap_chars ++ (front ++ rest))) empty ∙ ap (λ (some : List ℕ). some ++ (front ++ rest)) gap_is ∙ append_assoc line e.more (front ++ rest) in
+      let long = ap length (ap encodes gap_is ∙ encodes-append line e.more) in
+      record {
+        line = e.line;
+        terminator = e.terminator;
+        rest = encodes (e.more ++ (front ++ rest));
+        parts = sym (encodes-chars text utf8) ∙ ap encodes whole ∙ encodes-append line (e.more ++ (front ++ rest));
+        is_end = e.is_end;
+        before = omega (arith, gap_between.to_is, none, long, length-append (encodes line) (encodes e.more));
+      }
+
+  -- a gap at the start takes the line of a `#!`, and its terminator
+  hashbang-line : (place text (gap_chars ++ (front ++ rest)) == 0) ≡ first → IsLongest (has_shape (gap_at first)) (gap_chars ++ (front ++ rest)) gap_chars (front ++ rest)
+      → 0 < length front → place text (gap_chars ++ (front ++ rest)) ≡ 0 → (more : List ℕ) → chars text ≡ 0x23 ∷ 0x21 ∷ more → EndsLineBefore text (place text (front ++ rest))
+  hashbang-line at_start longest some at_zero more begins =
+      let none : length (encodes before) ≡ 0 = sym gap_between.from_is ∙ at_zero in
+      let empty : before ≡ [] = no-chars before (omega (arith, none, length-le-encodes before)) in
+      let is_first : first ≡ true = sym at_start ∙ eq-eqb (place text (gap_chars ++ (front ++ rest))) 0 at_zero in
+      let taken : IsLongest (has_shape first_gap) (gap_chars ++ (front ++ rest)) gap_chars (front ++ rest) =
+      subst (λ b. IsLongest (has_shape (gap_at b)) (gap_chars ++ (front ++ rest)) gap_chars (front ++ rest)) is_first longest in
+      let whole : gap_chars ++ (front ++ rest) ≡ 0x23 ∷ 0x21 ∷ more = ap (λ (some : List ℕ). some ++ (gap_chars ++ (front ++ rest))) (sym empty) ∙ sym parts ∙ begins in
+      line-before none (line-ends gap_chars front rest more some whole taken)
+
+  lies-at : (place text (gap_chars ++ (front ++ rest)) == 0) ≡ first → HasShape (gap_at first) gap_chars
+      → IsLongest (has_shape (gap_at first)) (gap_chars ++ (front ++ rest)) gap_chars (front ++ rest) → 0 < length front →
       found.span.start ≡ place text (front ++ rest) → found.span.end ≡ place text rest → found.new_line ≡ holds_terminator gap_chars →
       IsLongest (has_shape (class_shape found.class (front ++ rest))) (front ++ rest) front rest →
       LiesAt text (place text (gap_chars ++ (front ++ rest))) found.class found.span found.new_line
-  lies-at at_start is_gap some start end new_line longest =
+  lies-at at_start is_gap longest_gap some start end new_line longest =
       let g = gap_between in
       let f = front_between in
       let gap_slice : chars_between text (place text (gap_chars ++ (front ++ rest))) found.span.start ≡ gap_chars =
@@ -111,6 +150,7 @@ module _ (text before gap_chars front rest : List ℕ) (first : Bool) (found : L
         bytes = rw (start, end) f.slice;
         front_scalars = f.middle_scalars;
         longest = rw (begun_is, rest_is) longest;
+        line_ends = rw start (hashbang-line at_start longest_gap some);
       }
 
   -- the token isn't at the start
@@ -154,7 +194,8 @@ laid-more text before found left rest utf8 laid r =
     let parts : chars text ≡ laid.front ++ (r.gap_chars ++ (r.front ++ rest)) = laid.parts ∙ ap (λ more. laid.front ++ more) r.parts in
     let mate = mate_by (role_in text found) (length before) (context_of text before).brackets in
     let at_start : (place text (r.gap_chars ++ (r.front ++ rest)) == 0) ≡ is_none before = sym (ap (λ more. place text more == 0) r.parts) ∙ laid.at_start in
-    let lies = lies-at text laid.front r.gap_chars r.front rest (is_none before) found utf8 parts at_start r.is_gap r.some r.start r.end r.new_line r.longest in
+    let longest_gap = subst (λ more. IsLongest (has_shape (gap_at (is_none before))) more r.gap_chars (r.front ++ rest)) r.parts r.longest_gap in
+    let lies = lies-at text laid.front r.gap_chars r.front rest (is_none before) found utf8 parts at_start r.is_gap longest_gap r.some r.start r.end r.new_line r.longest in
     record {
       front = (laid.front ++ r.gap_chars) ++ r.front;
       parts = parts ∙ sym (append_assoc laid.front r.gap_chars (r.front ++ rest)) ∙ sym (append_assoc (laid.front ++ r.gap_chars) r.front rest);
@@ -197,6 +238,16 @@ module _ (text : List ℕ) (tokens : List Token) (h : AreTokens text tokens) whe
 
   pub new-lines : NewLinesByGaps text tokens
   new-lines = each-more (Lies text) _ (λ end. end ≡ place text h.1.rest) _ tokens 0 (λ from token lies. lies.new_line_is) (λ from e. tt) tokens-lie
+
+  -- the first token stands at the start, and behind the line of a `#!`
+  pub behind-hashbang : (more : List ℕ) (first : Token) (behind : List Token) → tokens ≡ first ∷ behind → text ≡ 0x23 ∷ 0x21 ∷ more → EndsLineBefore text first.span.start
+  unfolding encode
+  behind-hashbang more first behind e begins =
+      let one : (es : List ℕ) × (chars text ≡ 0x23 ∷ es) × (encodes es ≡ 0x21 ∷ more) =
+      cons_from_encodes (chars text) (0x21 ∷ more) 0x23 (encodes-chars text h.1.utf8 ∙ begins) in
+      let two : (es : List ℕ) × (one.0 ≡ 0x21 ∷ es) × (encodes es ≡ more) = cons_from_encodes one.0 more 0x21 one.2 in
+      let lie : EachBehind (Lies text) (λ end. end ≡ place text h.1.rest) 0 (first ∷ behind) = subst (EachBehind (Lies text) (λ end. end ≡ place text h.1.rest) 0) e tokens-lie in
+      lie.0.line_ends refl two.0 (one.1 ∙ ap (λ some. 0x23 ∷ some) two.1)
 
   pub at-most : length tokens ≤ length text
   at-most =

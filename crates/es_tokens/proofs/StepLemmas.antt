@@ -12,7 +12,7 @@ use Rattle.es_tokens.specs.TokenRole.{role_in}
 use Rattle.es_tokens.specs.Brackets.{opens, opens_after}
 use Rattle.es_tokens.specs.Division.{first_encloses, opens_condition, opens_expression}
 use Rattle.es_tokens.specs.Context.{context_of, context_after, opened_of, open_after, first_value}
-use Rattle.es_tokens.specs.Step.{ends, token, fails, place, passed, after_gap, placed, token_step, step_behind, step, token_at}
+use Rattle.es_tokens.specs.Step.{ends, token, fails, place, passed, after_gap, placed_token, token_step, step_behind, step, token_at}
 use Rattle.es_tokens.specs.Misplaced.{closes, misplaced}
 use Rattle.es_tokens.specs.declared.family.Family.{Family}
 use Rattle.es_tokens.specs.declared.family.Family.TheVariants.{Quoted, Begun, Resumed, Private, Comment, Punctuator, Question, Regex, Decimal, NonDecimal, Name}
@@ -66,7 +66,7 @@ gap-within : (first : Bool) (rest : List ℕ) → length (after_gap first rest) 
 unfolding after_gap
 gap-within first rest = left_within _ rest (longest-within (has_shape (cond first first_gap gap)) rest)
 
-pub placed-left : (found t : LexToken) (r left : List ℕ) (wrong : Option TokenKind) → placed found r wrong ≡ token t left → r ≡ left
+pub placed-left : (found t : LexToken) (r left : List ℕ) (wrong : Option TokenKind) → placed_token found r wrong ≡ token t left → r ≡ left
 placed-left found t r left None e = cc
 placed-left found t r left (Some kind) e = cc
 
@@ -124,7 +124,7 @@ pub context-step : (text : List ℕ) (t : LexToken) (before : List LexToken) →
 context-step text t before = rw (first-encloses text (opens text before), brackets-step text t before (role_in text t) refl) refl
 
 -- a step's token has its bracket in place
-pub placed-none : (found t : LexToken) (r left : List ℕ) (wrong : Option TokenKind) → placed found r wrong ≡ token t left → (wrong ≡ None) × (found ≡ t)
+pub placed-none : (found t : LexToken) (r left : List ℕ) (wrong : Option TokenKind) → placed_token found r wrong ≡ token t left → (wrong ≡ None) × (found ≡ t)
 placed-none found t r left None e = (refl, cc)
 placed-none found t r left (Some kind) e = cc
 
@@ -151,7 +151,7 @@ no-end : (test : Bool) (f : TokenFault) → test ≡ false → cond test ends (f
 no-end true f n e = cc
 no-end false f n e = cc
 
-placed-no_end : (found : LexToken) (r : List ℕ) (wrong : Option TokenKind) → placed found r wrong ≡ ends → ⊥
+placed-no_end : (found : LexToken) (r : List ℕ) (wrong : Option TokenKind) → placed_token found r wrong ≡ ends → ⊥
 placed-no_end found r None e = cc
 placed-no_end found r (Some kind) e = cc
 

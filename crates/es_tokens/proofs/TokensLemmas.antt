@@ -13,7 +13,7 @@ use Rattle.es_tokens.specs.declared.token.TokenKind.TheVariants.{Depth}
 use Rattle.es_tokens.specs.Context.{context_of, context_after, open_after}
 use Rattle.es_tokens.specs.Misplaced.{misplaced}
 use Rattle.es_tokens.specs.Step.{ends, token, fails, step}
-use Rattle.es_tokens.specs.Tokens.{run, all_of, in_order}
+use Rattle.es_tokens.specs.Tokens.{run, all_of, mated_or_fault}
 use Rattle.es_tokens.specs.Mated.{mate_by, mated_token, with_mate, mated}
 use Rattle.std.specs.Str.{chars}
 use Rattle.es_tokens.proofs.StepLemmas.{step-shorter, context-step}
@@ -76,14 +76,14 @@ reached-token text tokens context rest found left r e =
     }
 
 pub reached-end : (text : List ℕ) (tokens : List Token) (context : Context) (rest : List ℕ) →
-    Reached text tokens context rest → step 4096 text context rest ≡ ends → in_order text (all_of 4096 text) ≡ Ok tokens
+    Reached text tokens context rest → step 4096 text context rest ≡ ends → mated_or_fault text (all_of 4096 text) ≡ Ok tokens
 reached-end text tokens context rest r e =
     let step_is : step 4096 text (context_of text r.before) rest ≡ ends = rw (sym r.context_is) e in
     let told : Ok r.before ≡ all_of 4096 text = (rw step_is at r.runs) in
     rw (sym told) (ap Ok (sym r.tokens_are))
 
 pub reached-fault : (text : List ℕ) (tokens : List Token) (context : Context) (rest : List ℕ) (fault : TokenFault) →
-    Reached text tokens context rest → step 4096 text context rest ≡ fails fault → in_order text (all_of 4096 text) ≡ Err fault
+    Reached text tokens context rest → step 4096 text context rest ≡ fails fault → mated_or_fault text (all_of 4096 text) ≡ Err fault
 reached-fault text tokens context rest fault r e =
     let step_is : step 4096 text (context_of text r.before) rest ≡ fails fault = rw (sym r.context_is) e in
     let told : Err fault ≡ all_of 4096 text = (rw step_is at r.runs) in

@@ -6,7 +6,7 @@ use Rattle.es_tokens.specs.IsLongest.{IsLongest}
 use Rattle.es_tokens.specs.NameShape.{name, private_name}
 use Rattle.es_tokens.specs.NumberShape.{decimal, non_decimal}
 use Rattle.es_tokens.specs.PunctuatorShape.{punctuators}
-use Rattle.es_tokens.specs.QuotedShape.{quoted}
+use Rattle.es_tokens.specs.QuotedShape.{string_shape}
 use Rattle.es_tokens.specs.RegexShape.{regex}
 use Rattle.es_tokens.specs.Shape.{Shape, char, has_shape}
 use Rattle.es_tokens.specs.TemplateShape.{template_begun, template_resumed}
@@ -33,7 +33,7 @@ class_shape Name begun = name
 class_shape Keyword begun = name
 class_shape PrivateName begun = private_name
 class_shape Number begun = if starts_prefix begun then non_decimal else decimal
-class_shape Str begun = if starts_with 0x22 begun then quoted 0x22 else quoted 0x27
+class_shape Str begun = if starts_with 0x22 begun then string_shape 0x22 else string_shape 0x27
 class_shape Template begun = template_begun
 class_shape Head begun = template_begun
 class_shape Middle begun = template_resumed

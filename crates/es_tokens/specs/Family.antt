@@ -4,7 +4,7 @@ use Rattle.es_tokens.specs.Characters.{is_digit, is_name_start}
 use Rattle.es_tokens.specs.Shape.{Shape, no_text, char}
 use Rattle.es_tokens.specs.NameShape.{name, private_name}
 use Rattle.es_tokens.specs.NumberShape.{is_radix_letter, decimal, non_decimal}
-use Rattle.es_tokens.specs.QuotedShape.{quote_char, quoted}
+use Rattle.es_tokens.specs.QuotedShape.{quote_char, string_shape}
 use Rattle.es_tokens.specs.TemplateShape.{template_begun, template_resumed}
 use Rattle.es_tokens.specs.RegexShape.{regex}
 use Rattle.es_tokens.specs.PunctuatorShape.{punctuators}
@@ -60,7 +60,7 @@ family_of division resumes c more =
     else plain_family c more)))))
 
 abbrev pub shape_of : Family → Shape
-shape_of (Quoted quote) = quoted (quote_char quote)
+shape_of (Quoted quote) = string_shape (quote_char quote)
 shape_of Begun = template_begun
 shape_of Resumed = template_resumed
 shape_of Private = private_name
@@ -73,18 +73,18 @@ shape_of NonDecimal = non_decimal
 shape_of Name = name
 
 -- what it is that no text of the shape stands there
-abbrev pub fault_of : Family → TokenKind
-fault_of (Quoted quote) = Unfinished
-fault_of Begun = Unfinished
-fault_of Resumed = Unfinished
-fault_of Comment = Unfinished
-fault_of Regex = Unfinished
-fault_of Private = Stray
-fault_of Punctuator = Stray
-fault_of Question = Stray
-fault_of Decimal = Stray
-fault_of NonDecimal = Stray
-fault_of Name = Stray
+abbrev pub family_fault : Family → TokenKind
+family_fault (Quoted quote) = Unfinished
+family_fault Begun = Unfinished
+family_fault Resumed = Unfinished
+family_fault Comment = Unfinished
+family_fault Regex = Unfinished
+family_fault Private = Stray
+family_fault Punctuator = Stray
+family_fault Question = Stray
+family_fault Decimal = Stray
+family_fault NonDecimal = Stray
+family_fault Name = Stray
 
 -- a part of a template that ends with a backquote is the last
 abbrev pub ends_template : List ℕ → Bool

@@ -1,5 +1,6 @@
 pub mod Answers
 pub mod AreTokens
+pub mod Braces
 pub mod Brackets
 pub mod Characters
 pub mod ClassShape

@@ -20,5 +20,5 @@ after_backslash = alt (seq (char 0x0d) (char 0x0a)) any_char
 abbrev pub quoted_part : ℕ → Shape
 quoted_part quote = alt (one (λ c. is_string_char c && not (c == quote))) (seq (char 0x5c) after_backslash)
 
-abbrev pub quoted : ℕ → Shape
-quoted quote = seq (char quote) (seq (many (quoted_part quote)) (char quote))
+abbrev pub string_shape : ℕ → Shape
+string_shape quote = seq (char quote) (seq (many (quoted_part quote)) (char quote))

@@ -1,7 +1,7 @@
 -- Where tokens stand in a text (this project; gaps and line terminators by ECMA-262 12.2 to 12.5).
-use Rattle.std.specs.Prelude.{ℕ, ◌≡◌, ◌<◌, ◌≤◌, ◌==◌, List, [], ◌∷◌, if◌then◌else◌, length, slice_range}
-use Rattle.std.specs.Str.{chars}
-use Rattle.es_tokens.specs.Characters.{holds_terminator}
+use Rattle.std.specs.Prelude.{ℕ, ◌≡◌, ◌<◌, ◌≤◌, ◌==◌, true, List, [], ◌∷◌, ◌++◌, if◌then◌else◌, length, slice_range}
+use Rattle.std.specs.Str.{chars, encode_utf8_all}
+use Rattle.es_tokens.specs.Characters.{holds_terminator, is_terminator}
 use Rattle.es_tokens.specs.GapShape.{gap, first_gap}
 use Rattle.es_tokens.specs.Language.{HasShape}
 use Rattle.es_tokens.specs.declared.token.Token.{Token}
@@ -32,3 +32,12 @@ GapsBetween text tokens = EachBehind (λ from token. IsGap text from token.span.
 abbrev pub NewLinesByGaps : List ℕ → List Token → Type 0
 NewLinesByGaps text tokens =
     EachBehind (λ from token. token.new_line ≡ holds_terminator (chars_between text from token.span.start)) (λ from. Unit {0}) 0 tokens
+
+-- the text has a line that ends, with its terminator, at a place or before it
+pub record EndsLineBefore (text : List ℕ) (place : ℕ) : Type 0 where
+  pub line : List ℕ
+  pub terminator : ℕ
+  pub rest : List ℕ
+  pub parts : text ≡ encode_utf8_all (line ++ terminator ∷ []) ++ rest
+  pub is_end : is_terminator terminator ≡ true
+  pub before : length (encode_utf8_all (line ++ terminator ∷ [])) ≤ place

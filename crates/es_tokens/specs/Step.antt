@@ -5,7 +5,7 @@ use Rattle.es_tokens.specs.Characters.{holds_terminator}
 use Rattle.es_tokens.specs.Shape.{has_shape}
 use Rattle.es_tokens.specs.Longest.{after_longest}
 use Rattle.es_tokens.specs.GapShape.{gap, first_gap}
-use Rattle.es_tokens.specs.Family.{family_of, shape_of, fault_of, class_of}
+use Rattle.es_tokens.specs.Family.{family_of, shape_of, family_fault, class_of}
 use Rattle.es_tokens.specs.TokenRole.{role_in}
 use Rattle.es_tokens.specs.Misplaced.{closes, misplaced}
 use Rattle.es_tokens.specs.declared.family.Family.{Family}
@@ -38,9 +38,9 @@ passed rest left = take (length rest - length left) rest
 abbrev pub fail_at : ℕ → TokenKind → Next
 fail_at offset kind = fails (record { offset = offset; kind = kind })
 
-abbrev pub placed : LexToken → List ℕ → Option TokenKind → Next
-placed found rest None = token found rest
-placed found rest (Some kind) = fail_at found.span.start kind
+abbrev pub placed_token : LexToken → List ℕ → Option TokenKind → Next
+placed_token found rest None = token found rest
+placed_token found rest (Some kind) = fail_at found.span.start kind
 
 -- the token between two places, behind a gap of these characters
 abbrev pub token_at : List ℕ → Family → List ℕ → ℕ → ℕ → ℕ → LexToken
@@ -52,10 +52,10 @@ token_at text family gap start end depth = record {
 }
 
 abbrev pub token_step : ℕ → List ℕ → List Opened → Family → List ℕ → List ℕ → Option (List ℕ) → Next
-token_step most text brackets family gap begun None = fail_at (place text begun) (fault_of family)
+token_step most text brackets family gap begun None = fail_at (place text begun) (family_fault family)
 token_step most text brackets family gap begun (Some rest) =
     let found = token_at text family gap (place text begun) (place text rest) (length brackets) in
-    placed found rest (misplaced most brackets (role_in text found))
+    placed_token found rest (misplaced most brackets (role_in text found))
 
 -- the step on what a gap leaves
 abbrev pub step_behind : ℕ → List ℕ → Context → List ℕ → List ℕ → Next

@@ -28,14 +28,14 @@ run most text (suc steps) before rest =
 unfoldable pub all_of : ℕ → List ℕ → Result (List LexToken) TokenFault
 all_of most text = run most text (suc (length (chars text))) [] (chars text)
 
-abbrev pub in_order : List ℕ → Result (List LexToken) TokenFault → Result (List Token) TokenFault
-in_order text (Ok found) = Ok (mated text found)
-in_order text (Err fault) = Err fault
+abbrev pub mated_or_fault : List ℕ → Result (List LexToken) TokenFault → Result (List Token) TokenFault
+mated_or_fault text (Ok found) = Ok (mated text found)
+mated_or_fault text (Err fault) = Err fault
 
 -- the tokens of a text, or its first fault
 unfoldable pub tokens_of : List ℕ → Result (List Token) TokenFault
 tokens_of text =
-    if is_utf8 text then in_order text (all_of 4096 text)
+    if is_utf8 text then mated_or_fault text (all_of 4096 text)
     else Err (record { offset = utf8_valid_len text; kind = NotUtf8 })
 
 -- where this is told, the end is the fault, unless memory ran out

@@ -4,7 +4,7 @@ ghost use Rattle.std.specs.Str.{chars};
 ghost use Rattle.es_tokens.specs.NumberShape.{is_radix_letter};
 ghost use Rattle.es_tokens.specs.Longest.{after_longest};
 ghost use Rattle.es_tokens.specs.Shape.{has_shape};
-ghost use Rattle.es_tokens.specs.Family.{starts_digit, starts_point, starts_radix_letter, starts_star, slash_family, number_family, plain_family, family_of, shape_of, fault_of};
+ghost use Rattle.es_tokens.specs.Family.{starts_digit, starts_point, starts_radix_letter, starts_star, slash_family, number_family, plain_family, family_of, shape_of, family_fault};
 
 use crate::character::{is_digit, is_name_start};
 use crate::cursor::split_first;
@@ -116,7 +116,7 @@ fn plain_family(c: char, more: &str) -> Family
 }
 
 impl Family {
-    ghost use Rattle.es_tokens.specs.Family.{family_of, shape_of, fault_of};
+    ghost use Rattle.es_tokens.specs.Family.{family_of, shape_of, family_fault};
 
     /// The family of a token by its first character and those behind it. With `resumes` a `}` goes
     /// on with a template.
@@ -142,7 +142,7 @@ impl Family {
 
     /// What it is that no text of the shape stands there.
     pub(crate) fn fault(self) -> TokenKind
-        ensures { result ≡ fault_of self }
+        ensures { result ≡ family_fault self }
     {
         match self {
             Family::Quoted(_) | Family::Begun | Family::Resumed | Family::Comment | Family::Regex =>

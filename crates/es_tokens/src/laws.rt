@@ -1,11 +1,12 @@
 //! What holds of the definitions: calls that do nothing and whose clauses are the laws.
-ghost use Rattle.std.specs.Prelude.{◌≡◌, ◌≤◌, ◌↔◌, ◌==◌, ◌&&◌, ◌||◌, ◌∷◌, ◌++◌, [], ℕ, List, Bool, true, not, Ok, Err, length, map, reverse};
+ghost use Rattle.std.specs.Prelude.{◌≡◌, ◌≤◌, ◌↔◌, ◌==◌, ◌&&◌, ◌||◌, ◌∷◌, ◌++◌, [], ℕ, List, Bool, true, not, Ok, Err, Some, codes, length, map, reverse, slice_get};
 ghost use Rattle.std.specs.Char.{is_whitespace};
 ghost use Rattle.std.specs.List.{AllByRecursion};
 ghost use Rattle.std.specs.Str.{IsUtf8};
 ghost use Rattle.es_tokens.specs.Longest.{after_longest};
 ghost use Rattle.es_tokens.specs.Answers.{answers_of};
 ghost use Rattle.es_tokens.specs.AreTokens.{AreTokens, AreLexed};
+ghost use Rattle.es_tokens.specs.Braces.{IsClosedBrace, IsPunctuator};
 ghost use Rattle.es_tokens.specs.Characters.{is_blank};
 ghost use Rattle.es_tokens.specs.ClassShape.{IsLongestOfClass};
 ghost use Rattle.es_tokens.specs.Depths.{AreNested, DepthsCountOpen};
@@ -14,7 +15,7 @@ ghost use Rattle.es_tokens.specs.IsLongest.{LeavesLongest};
 ghost use Rattle.es_tokens.specs.Language.{HasShape};
 ghost use Rattle.es_tokens.specs.Mates.{AreMates};
 ghost use Rattle.es_tokens.specs.Shape.{Shape, has_shape};
-ghost use Rattle.es_tokens.specs.Spans.{AreInOrder, GapsBetween, NewLinesByGaps};
+ghost use Rattle.es_tokens.specs.Spans.{AreInOrder, EndsLineBefore, GapsBetween, NewLinesByGaps};
 ghost use Rattle.es_tokens.specs.TokenText.{IsQuoted, token_bytes};
 ghost use Rattle.es_tokens.specs.Tokens.{tokens_of};
 ghost use Rattle.es_tokens.specs.declared.token.LexToken.{LexToken};
@@ -63,6 +64,12 @@ pub fn new_lines_are_those_of_gaps()
         → AreTokens text tokens → NewLinesByGaps text tokens }
 {}
 
+/// Where a text begins with `#!`, its first token stands behind that line.
+pub fn tokens_stand_behind_a_hashbang()
+    ensures { (text more : List ℕ) (first : Token) (tokens : List Token)
+        → AreTokens text (first ∷ tokens) → text ≡ codes "#!" ++ more → EndsLineBefore text first.span.start }
+{}
+
 /// Each token is the longest of its class at its place.
 pub fn each_token_is_the_longest()
     ensures { (text : List ℕ) (tokens : List Token)
@@ -96,6 +103,13 @@ pub fn blanks_are_those_of_unicode()
 /// Each bracket has its mate, and any other token is its own.
 pub fn each_bracket_has_its_mate()
     ensures { (text : List ℕ) (tokens : List Token) → AreTokens text tokens → AreMates text tokens }
+{}
+
+/// The mate of a `{` is a `}` behind it.
+pub fn each_brace_is_closed()
+    ensures { (text : List ℕ) (tokens : List Token) (at : ℕ) (brace : Token)
+        → AreTokens text tokens → slice_get tokens at ≡ Some brace → IsPunctuator text brace (codes "{")
+        → IsClosedBrace text tokens at brace }
 {}
 
 /// Whether a text has a shape is as the words of languages say.

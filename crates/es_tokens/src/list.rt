@@ -1,6 +1,6 @@
 ghost use Rattle.std.specs.Prelude.{◌≡◌, ◌^◌, ◌≤◌, ◌++◌, ◌∷◌, [], length, Ok, MatchResult, OnOk, OnErr};
 ghost use Rattle.es_tokens.specs.Mated.{mated_token, with_mate};
-ghost use Rattle.es_tokens.specs.Tokens.{all_of, in_order, tokens_of, EndsBy};
+ghost use Rattle.es_tokens.specs.Tokens.{all_of, mated_or_fault, tokens_of, EndsBy};
 
 use crate::context::Context;
 use crate::step::{Next, step};
@@ -34,7 +34,7 @@ fn add(tokens: &mut Vec<Token>, found: LexToken, mate: u32) -> Result<(), NoMemo
 
 fn all_tokens(alloc: Global, text: &str) -> Result<Vec<Token>, TokenEnd>
     requires { length text.now ≤ 2 ^ 30 }
-    ensures { let told = in_order text.now (all_of 4096 text.now) in
+    ensures { let told = mated_or_fault text.now (all_of 4096 text.now) in
         MatchResult result (λ tokens. told ≡ Ok tokens.items) (EndsBy told) }
 {
     let mut tokens = Vec::new(alloc);

@@ -1,2 +1,5 @@
+pub mod ApartLemmas
+pub mod BegunLemmas
 pub mod DeclarationLemmas
 pub mod LongestLemmas
+pub mod SignLemmas

@@ -4,7 +4,7 @@ use Rattle.std.specs.Prelude.{nat_lt, slice_get}
 use Rattle.std.specs.List.{AllByRecursion}
 use borrow.Author.Tests.{tests}
 use Rattle.form_shapes.specs.Forms.{longer, longest_from}
-use Rattle.form_shapes.specs.Longest.{EndsNoLater, IsLongest}
+use Rattle.form_shapes.specs.Longest.{EndsNoLater, IsLongestForm}
 use Rattle.form_shapes.specs.declared.form.Form.{Form}
 use Rattle.form_shapes.specs.declared.shape.Shape.{Shape}
 
@@ -82,11 +82,11 @@ module _ (form : Shape → Option Form) where
   all_end end (shape ∷ shapes) all = (ends end (form shape) all.0, all_end end shapes all.1)
 
   told : (shapes : List Shape) (result : Option Form)
-      → AllByRecursion (λ shape. reach (form shape) ≤ reach result) shapes → IsFrom None shapes result → IsLongest form shapes result
+      → AllByRecursion (λ shape. reach (form shape) ≤ reach result) shapes → IsFrom None shapes result → IsLongestForm form shapes result
   unfolding IsFrom
   told shapes None all from = none_ends shapes all
   told shapes (Some best) all (inl e) = absurd (cc)
   told shapes (Some best) all (inr there) = (there, all_end best.end shapes all)
 
-  pub is_longest : (shapes : List Shape) → IsLongest form shapes (longest_from form None shapes)
+  pub is_longest : (shapes : List Shape) → IsLongestForm form shapes (longest_from form None shapes)
   is_longest shapes = told shapes (longest_from form None shapes) (above None shapes) (came None shapes)

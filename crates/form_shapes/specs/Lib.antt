@@ -1,3 +1,4 @@
+pub mod Apart
 pub mod Declaration
 pub mod Forms
 pub mod Longest

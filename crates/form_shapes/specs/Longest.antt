@@ -13,6 +13,6 @@ EndsNoLater end None = Unit {0}
 EndsNoLater end (Some form) = form.end ≤ end
 
 -- the form of one of these shapes, and of none of them one that ends later; no form only where no shape has one
-abbrev pub IsLongest : (Shape → Option Form) → List Shape → Option Form → Type 0
-IsLongest form shapes None = AllByRecursion (λ shape. form shape ≡ None) shapes
-IsLongest form shapes (Some best) = HasForm form shapes best × AllByRecursion (λ shape. EndsNoLater best.end (form shape)) shapes
+abbrev pub IsLongestForm : (Shape → Option Form) → List Shape → Option Form → Type 0
+IsLongestForm form shapes None = AllByRecursion (λ shape. form shape ≡ None) shapes
+IsLongestForm form shapes (Some best) = HasForm form shapes best × AllByRecursion (λ shape. EndsNoLater best.end (form shape)) shapes

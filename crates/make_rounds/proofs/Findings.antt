@@ -6,7 +6,7 @@ use Rattle.std.specs.List.{AllByRecursion, list_any}
 use Rattle.std.specs.Prelude.{nat_eq, Contains, IsTrue}
 use Rattle.graph_types.specs.Reached.{HoldsAll}
 use Rattle.make_rounds.specs.inner.Found.{Finding, with_number, with_numbers, with_files}
-use Rattle.make_rounds.proofs.Lists.{all-push}
+use Rattle.module_build.proofs.Lists.{all-push}
 
 pub with_numbers-append : (files xs ys : List ℕ) → with_numbers files (xs ++ ys) ≡ with_numbers (with_numbers files xs) ys
 with_numbers-append files [] ys = refl

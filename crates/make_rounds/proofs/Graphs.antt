@@ -3,50 +3,30 @@ use Rattle.std.proofs.Common.{◌≡◌, ℕ, List, [], ◌∷◌, map, refl, sy
 use Rattle.std.proofs.lemmas.List.Elements.{All-from_recursion, recursion_from_All}
 use Rattle.std.proofs.lemmas.List.Sorted.{All-permutation, Contains-permutation, IsPermutation-map, IsPermutation-sym}
 use Rattle.std.specs.List.{AllByRecursion}
-use Rattle.std.specs.Prelude.{Contains, IsTrue, IsPermutation, Result, Ok, Err, filter_map, unwrap_or}
+use Rattle.std.specs.Prelude.{Contains, IsTrue, IsPermutation, filter_map}
 use Rattle.fault_place.specs.declared.fault.Fault.{Fault}
 use Rattle.fault_place.specs.declared.number.FileId.{FileId}
-use Rattle.fault_place.specs.declared.limit.TheConstants.{MAX_TEXT}
+use Rattle.graph_types.specs.Graphs.{IsGraphOf, roots_of}
 use Rattle.graph_types.specs.Modules.{Graph, file_id, files_of, module_of}
 use Rattle.graph_types.specs.Reached.{IsReached}
-use Rattle.graph_types.specs.declared.record.ModRecord.{ModRecord}
-use Rattle.outside.specs.Reads.{read_of as read_got}
-use Rattle.outside.specs.Tree.{Tree, bytes_at}
-use Rattle.outside.specs.declared.entry.ReadGot.{ReadGot}
-use Rattle.outside.specs.declared.entry.ReadGot.TheVariants.{Whole, TooLong}
-use Rattle.tree_listing.specs.Listing.{lengths_of, path_at, length_at}
-use Rattle.make_rounds.specs.inner.Gathered.{AreGathered, IsGraphFrom, first_files, numbers_of}
-use Rattle.graph_types.specs.Graphs.{IsGraphOf, roots_of}
 use Rattle.graph_types.specs.Targets.{targets_by}
-use Rattle.make_rounds.specs.Record.{read_record, record_from, record_of}
-use Rattle.make_rounds.specs.today.Statements.{Import, imports_of}
+use Rattle.graph_types.specs.declared.record.ModRecord.{ModRecord}
+use Rattle.make_rounds.specs.inner.Answered.{numbers_of}
+use Rattle.make_rounds.specs.inner.Gathered.{AreGathered, IsGraphFrom, all_numbers}
 use Rattle.make_rounds.proofs.Findings.{all-kept}
 
-file_by : (files : List (List ℕ × ℕ)) (file : FileId) (path text : List ℕ) (read : Result (List Import) ℕ) → (read_record files file path text read).file ≡ file
-file_by files file path text (Ok imports) = refl
-file_by files file path text (Err at) = refl
+module _ (record_of : ℕ → ModRecord) (file_is : (number : ℕ) → (record_of number).file ≡ file_id number) where
+  numbers_are : (members : List ℕ) → files_of (map record_of members) ≡ members
+  numbers_are [] = refl
+  numbers_are (file ∷ members) = λ i. (file_is file i).0 ∷ numbers_are members i
 
-file_from : (files : List (List ℕ × ℕ)) (file : FileId) (path : List ℕ) (size : ℕ) (got : ReadGot) → (record_from files file path size got).file ≡ file
-file_from files file path size (Whole text) = file_by files file path text (imports_of text)
-file_from files file path size TooLong = refl
+  each_is : (members : List ℕ) → AllByRecursion (λ (rec : ModRecord). rec ≡ record_of rec.file.0) (map record_of members)
+  each_is [] = tt
+  each_is (file ∷ members) = (ap (λ (one : FileId). record_of one.0) (sym (file_is file)), each_is members)
 
-file_is : (tree : Tree) (number : ℕ) → (record_of tree number).file ≡ file_id number
-file_is tree number =
-    let files = lengths_of tree in
-    let path = path_at files number in
-    file_from files (file_id number) path (length_at files number) (read_got MAX_TEXT (unwrap_or (bytes_at tree path) []))
-
-numbers_are : (tree : Tree) (members : List ℕ) → files_of (map (record_of tree) members) ≡ members
-numbers_are tree [] = refl
-numbers_are tree (file ∷ members) = λ i. (file_is tree file i).0 ∷ numbers_are tree members i
-
-each_is : (tree : Tree) (members : List ℕ) → AllByRecursion (λ rec. rec ≡ record_of tree rec.file.0) (map (record_of tree) members)
-each_is tree [] = tt
-each_is tree (file ∷ members) = (ap (λ (one : FileId). record_of tree one.0) (sym (file_is tree file)), each_is tree members)
-
-all_are : (tree : Tree) (records : List ModRecord) → AllByRecursion (λ rec. rec ≡ record_of tree rec.file.0) records → records ≡ map (record_of tree) (files_of records)
-all_are tree [] all = refl
-all_are tree (rec ∷ records) all = λ i. all.0 i ∷ all_are tree records all.1 i
+  all_are : (records : List ModRecord) → AllByRecursion (λ (rec : ModRecord). rec ≡ record_of rec.file.0) records → records ≡ map record_of (files_of records)
+  all_are [] all = refl
+  all_are (rec ∷ records) all = λ i. all.0 i ∷ all_are records all.1 i
 
 same_files : (entry : List FileId) → map file_id (numbers_of entry) ≡ entry
 same_files [] = refl
@@ -67,24 +47,25 @@ roots_are : (records : List ModRecord) (entries : List (List FileId)) → map (f
 roots_are records [] = refl
 roots_are records (entry ∷ entries) = λ i. filter_map (module_of records) (sym (same_files entry) i) ∷ roots_are records entries i
 
-module _ (tree : Tree) (entries : List (List FileId)) (faults : List Fault) (records : List ModRecord) (graph : Graph) (gathered : AreGathered tree (first_files entries) records) (from : IsGraphFrom records entries faults graph) where
+module _ (record_of : ℕ → ModRecord) (file_is : (number : ℕ) → (record_of number).file ≡ file_id number) (entries : List (List FileId)) (faults : List Fault) (records : List ModRecord) (graph : Graph)
+    (gathered : AreGathered record_of (all_numbers entries) records) (from : IsGraphFrom records entries faults graph) where
   members_are : files_of records ≡ gathered.members
-  members_are = ap files_of gathered.records_are ∙ numbers_are tree gathered.members
+  members_are = ap files_of gathered.records_are ∙ numbers_are record_of file_is gathered.members
 
   shuffled : IsPermutation gathered.members (files_of graph.records)
   shuffled = subst (λ members. IsPermutation members (files_of graph.records)) members_are (IsPermutation-map (λ (rec : ModRecord). rec.file.0) records graph.records from.same)
 
-  each : AllByRecursion (λ rec. rec ≡ record_of tree rec.file.0) graph.records
+  each : AllByRecursion (λ (rec : ModRecord). rec ≡ record_of rec.file.0) graph.records
   each =
-      recursion_from_All _ graph.records (All-permutation (λ rec. rec ≡ record_of tree rec.file.0) records graph.records from.same
-      (All-from_recursion _ records (subst (AllByRecursion (λ rec. rec ≡ record_of tree rec.file.0)) (sym gathered.records_are) (each_is tree gathered.members))))
+      recursion_from_All _ graph.records (All-permutation (λ (rec : ModRecord). rec ≡ record_of rec.file.0) records graph.records from.same
+      (All-from_recursion _ records (subst (AllByRecursion (λ (rec : ModRecord). rec ≡ record_of rec.file.0)) (sym gathered.records_are) (each_is record_of file_is gathered.members))))
 
-  pub graph_is : IsGraphOf (record_of tree) (map numbers_of entries) faults graph
+  pub graph_is : IsGraphOf record_of (map numbers_of entries) faults graph
   graph_is = record {
     members = files_of graph.records;
     ascending = from.ascending;
-    reached = IsReached-permutation (targets_by (record_of tree)) (first_files entries) gathered.members (files_of graph.records) shuffled gathered.reached;
-    records_are = all_are tree graph.records each;
+    reached = IsReached-permutation (targets_by record_of) (all_numbers entries) gathered.members (files_of graph.records) shuffled gathered.reached;
+    records_are = all_are record_of file_is graph.records each;
     roots_are = from.roots_are ∙ roots_are graph.records entries;
     faults_are = from.faults_are;
   }

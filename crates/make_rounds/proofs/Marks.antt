@@ -8,7 +8,7 @@ use Rattle.std.proofs.lemmas.List.Sums.{sum_by-set}
 use Rattle.std.proofs.lemmas.Map.Keys.{IsDistinct-push}
 use Rattle.std.specs.List.{list_any, AllByRecursion, IsDistinct}
 use Rattle.std.specs.Prelude.{nat_eq, count_by}
-use Rattle.make_rounds.proofs.Lists.{all-push}
+use Rattle.module_build.proofs.Lists.{all-push}
 use Rattle.make_rounds.specs.inner.Found.{IsMarked}
 
 none : (of : ℕ) → of * 0 ≡ 0

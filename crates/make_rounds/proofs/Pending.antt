@@ -1,42 +1,49 @@
 -- What one pending file after another leaves.
-use Rattle.std.proofs.Common.{◌≡◌, ℕ, ◌+◌, ◌<◌, ◌≤◌, Bool, List, [], ◌∷◌, ◌++◌, append-nil, map, length, length-append, get_or, take, refl, sym, ap, subst, ◌∙◌, arith}
+use Rattle.std.proofs.Common.{◌≡◌, ℕ, ◌+◌, ◌<◌, ◌≤◌, Bool, true, List, [], ◌∷◌, ◌++◌, append-nil, map, length, length-append, get_or, take, refl, sym, ap, subst, ◌∙◌, arith}
+use Rattle.std.proofs.lemmas.Bool.Decides.{nat_tests}
+use Rattle.std.proofs.lemmas.Cmp.{nat_eq_equiv}
 use Rattle.std.proofs.lemmas.List.{take_all, take_more, take-append-le, map-append}
 use Rattle.std.proofs.lemmas.List.Elements.{All-contains, All-from_recursion}
-use Rattle.std.specs.List.{AllByRecursion, IsDistinct}
-use Rattle.std.specs.Prelude.{nat_eq, Contains, IsTrue, Result, Ok, Err, unwrap_or}
+use Rattle.std.proofs.lemmas.Map.Views.{Contains-from_any, list_any-from_Contains}
+use Rattle.std.specs.List.{AllByRecursion, IsDistinct, list_any}
+use Rattle.std.specs.Prelude.{nat_eq, Contains, IsTrue}
+use Rattle.fault_place.specs.Limit.{number_of}
+use Rattle.fault_place.specs.declared.limit.Limit.{Limit}
 use Rattle.graph_types.specs.Reached.{HoldsAll, IsClosed}
-use Rattle.graph_types.specs.declared.record.ModRecord.{ModRecord}
-use Rattle.outside.specs.Tree.{Tree, bytes_at}
-use Rattle.outside.specs.declared.entry.ReadGot.{ReadGot}
-use Rattle.outside.specs.declared.entry.ReadGot.TheVariants.{Whole, TooLong}
-use Rattle.fault_place.specs.declared.number.FileId.{FileId}
-use Rattle.fault_place.specs.declared.limit.TheConstants.{MAX_TEXT}
-use Rattle.graph_types.specs.Modules.{file_id}
 use Rattle.graph_types.specs.Targets.{targets_by, targets_of}
+use Rattle.graph_types.specs.declared.config.Config.{Config}
+use Rattle.graph_types.specs.declared.record.ModRecord.{ModRecord}
+use Rattle.module_build.proofs.Gains.{gains_more}
+use Rattle.module_build.proofs.Lists.{all-push, all-at}
+use Rattle.module_build.specs.Readings.{Readings}
+use Rattle.module_build.specs.Reads.{ReadsPaths, file_path}
+use Rattle.module_build.specs.Record.{record_of}
 use Rattle.outside.specs.Logs.{Gains}
+use Rattle.outside.specs.Tree.{Tree}
 use Rattle.outside.specs.Views.{ReaderView}
-use Rattle.make_rounds.proofs.Gains.{gains_more}
-use Rattle.outside.specs.Reads.{read_of as read_got}
-use Rattle.tree_listing.specs.Listing.{lengths_of, path_at, length_at}
+use Rattle.make_rounds.specs.Counts.{ExceedsReached, counted}
 use Rattle.make_rounds.specs.inner.Found.{with_numbers}
-use Rattle.make_rounds.specs.inner.Gathered.{AreGathered}
-use Rattle.make_rounds.specs.Graph.{ReadsReached}
-use Rattle.make_rounds.specs.Reads.{ReadsPaths, file_path}
-use Rattle.make_rounds.specs.Record.{record_of, record_from, read_record}
-use Rattle.make_rounds.specs.today.Statements.{Import, imports_of}
+use Rattle.make_rounds.specs.inner.Gathered.{AreGathered, ReadsFound}
+use Rattle.make_rounds.proofs.Counting.{counted_within}
 use Rattle.make_rounds.proofs.Findings.{grows, held, kept, within, all-kept}
-use Rattle.make_rounds.proofs.Lists.{all-push, all-at}
 use Rattle.make_rounds.proofs.Orders.{all-take, distinct-take}
+use Rattle.make_rounds.proofs.Records.{path_is}
+
+same : (x y : ℕ) → nat_eq x y ≡ true → x ≡ y
+same x y h = grind (arith, nat_tests)
+
+contained : (file : ℕ) (found : List ℕ) → list_any (nat_eq file) found ≡ true → Contains found file
+contained file found there = Contains-from_any same file found there
 
 -- the records of the first files that were found
-pub record AreMade (tree : Tree) (entry found : List ℕ) (records : List ModRecord) : Type 0 where
-  pub records_are : records ≡ map (record_of tree) (take (length records) found)
+pub record AreMade (record_of : ℕ → ModRecord) (entry found : List ℕ) (records : List ModRecord) : Type 0 where
+  pub records_are : records ≡ map record_of (take (length records) found)
   pub holds : AllByRecursion (Contains found) entry
-  pub closed : AllByRecursion (λ file. AllByRecursion (Contains found) (targets_by (record_of tree) file)) (take (length records) found)
-  pub least : (set : ℕ → Bool) → HoldsAll set entry → IsClosed (targets_by (record_of tree)) set → HoldsAll set found
+  pub closed : AllByRecursion (λ file. AllByRecursion (Contains found) (targets_by record_of file)) (take (length records) found)
+  pub least : (set : ℕ → Bool) → HoldsAll set entry → IsClosed (targets_by record_of) set → HoldsAll set found
 
-module _ (tree : Tree) (entry : List ℕ) where
-  pub made_none : AreMade tree entry (with_numbers [] entry) []
+module _ (record_of : ℕ → ModRecord) (entry : List ℕ) where
+  pub made_none : AreMade record_of entry (with_numbers [] entry) []
   made_none = record {
     records_are = refl;
     holds = held [] entry;
@@ -44,7 +51,7 @@ module _ (tree : Tree) (entry : List ℕ) where
     least = λ set all closed. within set [] entry tt all;
   }
 
-  pub made_more : (found : List ℕ) (records : List ModRecord) (rec : ModRecord) → AreMade tree entry found records → length records < length found → rec ≡ record_of tree (get_or found (length records) 0) → AreMade tree entry (with_numbers found (targets_of rec)) (records ++ rec ∷ [])
+  pub made_more : (found : List ℕ) (records : List ModRecord) (rec : ModRecord) → AreMade record_of entry found records → length records < length found → rec ≡ record_of (get_or found (length records) 0) → AreMade record_of entry (with_numbers found (targets_of rec)) (records ++ rec ∷ [])
   made_more found records rec made pending is =
       let count = length records in
       let file = get_or found count 0 in
@@ -55,16 +62,16 @@ module _ (tree : Tree) (entry : List ℕ) where
       let front : take (count + 1) new ≡ take count found ++ file ∷ [] =
       ap (take (count + 1)) growth.1 ∙ take-append-le (count + 1) found growth.0 fits ∙ take_more found count 0 pending in
       let front' : take (length (records ++ rec ∷ [])) new ≡ take count found ++ file ∷ [] = ap (λ n. take n new) longer ∙ front in
-      let named : targets_by (record_of tree) file ≡ targets_of rec = ap targets_of (sym is) in
+      let named : targets_by record_of file ≡ targets_of rec = ap targets_of (sym is) in
       record {
         records_are =
-            ap (λ front. front ++ rec ∷ []) made.records_are ∙ ap (λ last. map (record_of tree) (take count found) ++ last ∷ []) is
-            ∙ sym (map-append (record_of tree) (take count found) (file ∷ [])) ∙ ap (map (record_of tree)) (sym front');
+            ap (λ front. front ++ rec ∷ []) made.records_are ∙ ap (λ last. map record_of (take count found) ++ last ∷ []) is
+            ∙ sym (map-append record_of (take count found) (file ∷ [])) ∙ ap (map record_of) (sym front');
         holds = all-kept (Contains found) (Contains new) (kept found (targets_of rec)) entry made.holds;
-        closed = subst (AllByRecursion (λ one. AllByRecursion (Contains new) (targets_by (record_of tree) one))) (sym front')
-            (all-push (λ one. AllByRecursion (Contains new) (targets_by (record_of tree) one)) (take count found) file
-            (all-kept (λ one. AllByRecursion (Contains found) (targets_by (record_of tree) one)) (λ one. AllByRecursion (Contains new) (targets_by (record_of tree) one))
-            (λ (one : ℕ) all. all-kept (Contains found) (Contains new) (kept found (targets_of rec)) (targets_by (record_of tree) one) all) (take count found) made.closed)
+        closed = subst (AllByRecursion (λ one. AllByRecursion (Contains new) (targets_by record_of one))) (sym front')
+            (all-push (λ one. AllByRecursion (Contains new) (targets_by record_of one)) (take count found) file
+            (all-kept (λ one. AllByRecursion (Contains found) (targets_by record_of one)) (λ one. AllByRecursion (Contains new) (targets_by record_of one))
+            (λ (one : ℕ) all. all-kept (Contains found) (Contains new) (kept found (targets_of rec)) (targets_by record_of one) all) (take count found) made.closed)
             (subst (AllByRecursion (Contains new)) (sym named) (held found (targets_of rec))));
         least = λ set all closed.
             let each = made.least set all closed in
@@ -72,44 +79,31 @@ module _ (tree : Tree) (entry : List ℕ) where
             (subst (HoldsAll set) named (closed file (all-at (λ one. IsTrue (set one)) found count 0 pending each)));
       }
 
-  pub gathered : (found : List ℕ) (records : List ModRecord) → AreMade tree entry found records → length found ≤ length records → IsDistinct nat_eq found → AreGathered tree entry records
+  pub gathered : (found : List ℕ) (records : List ModRecord) → AreMade record_of entry found records → length found ≤ length records → IsDistinct nat_eq found → AreGathered record_of entry records
   gathered found records made all distinct =
       let whole : take (length records) found ≡ found = take_all (length records) found all in
       record {
         members = found;
-        records_are = made.records_are ∙ ap (map (record_of tree)) whole;
+        records_are = made.records_are ∙ ap (map record_of) whole;
         distinct = distinct;
         reached = record {
           holds = made.holds;
           closed = λ file there.
-              All-contains (λ one. AllByRecursion (Contains found) (targets_by (record_of tree) one)) found file
-              (All-from_recursion (λ one. AllByRecursion (Contains found) (targets_by (record_of tree) one)) found (subst (AllByRecursion (λ one. AllByRecursion (Contains found) (targets_by (record_of tree) one))) whole made.closed))
+              All-contains (λ one. AllByRecursion (Contains found) (targets_by record_of one)) found file
+              (All-from_recursion (λ one. AllByRecursion (Contains found) (targets_by record_of one)) found (subst (AllByRecursion (λ one. AllByRecursion (Contains found) (targets_by record_of one))) whole made.closed))
               there;
           least = made.least;
         };
       }
 
-path_by : (files : List (List ℕ × ℕ)) (file : FileId) (path text : List ℕ) (read : Result (List Import) ℕ) → (read_record files file path text read).path ≡ path
-path_by files file path text (Ok imports) = refl
-path_by files file path text (Err at) = refl
-
-path_from : (files : List (List ℕ × ℕ)) (file : FileId) (path : List ℕ) (size : ℕ) (got : ReadGot) → (record_from files file path size got).path ≡ path
-path_from files file path size (Whole text) = path_by files file path text (imports_of text)
-path_from files file path size TooLong = refl
-
-path_is : (tree : Tree) (number : ℕ) → (record_of tree number).path ≡ path_at (lengths_of tree) number
-path_is tree number =
-    let files = lengths_of tree in
-    let path = path_at files number in
-    path_from files (file_id number) path (length_at files number) (read_got MAX_TEXT (unwrap_or (bytes_at tree path) []))
-
 -- the paths of the first files are those of their records
-pub paths_of : (tree : Tree) (files : List ℕ) → map (λ (rec : ModRecord). rec.path) (map (record_of tree) files) ≡ map (file_path tree) files
-paths_of tree [] = refl
-paths_of tree (file ∷ files) = λ i. path_is tree file i ∷ paths_of tree files i
+pub paths_of : (readings : Readings) (tree : Tree) (config : Config) (files : List ℕ) → map (λ (rec : ModRecord). rec.path) (map (record_of readings tree config) files) ≡ map (file_path tree) files
+paths_of readings tree config [] = refl
+paths_of readings tree config (file ∷ files) = λ i. path_is readings tree config file i ∷ paths_of readings tree config files i
 
-pub paths_are : (tree : Tree) (entry found : List ℕ) (records : List ModRecord) → AreMade tree entry found records → map (file_path tree) (take (length records) found) ≡ map (λ (rec : ModRecord). rec.path) records
-paths_are tree entry found records made = sym (ap (map (λ (rec : ModRecord). rec.path)) made.records_are ∙ paths_of tree (take (length records) found))
+pub paths_are : (readings : Readings) (tree : Tree) (config : Config) (entry found : List ℕ) (records : List ModRecord) → AreMade (record_of readings tree config) entry found records
+    → map (file_path tree) (take (length records) found) ≡ map (λ (rec : ModRecord). rec.path) records
+paths_are readings tree config entry found records made = sym (ap (map (λ (rec : ModRecord). rec.path)) made.records_are ∙ paths_of readings tree config (take (length records) found))
 
 -- the reads of the first files
 abbrev pub ReadsFirst : Tree → List ℕ → ℕ → ReaderView → ReaderView → Type 0
@@ -128,8 +122,9 @@ read_none tree found count start before now was is =
     subst (λ paths. Gains start now (ReadsPaths paths)) (append-nil (map (file_path tree) (take count found))) (gains_more start before now (map (file_path tree) (take count found)) [] was is)
 
 -- what is read of the first files: none twice, and none that isn't reached
-pub reads_some : (tree : Tree) (entry found : List ℕ) (records : List ModRecord) (count : ℕ) → AreMade tree entry found records → IsDistinct nat_eq found → (start now : ReaderView) → ReadsFirst tree found count start now → Gains start now (ReadsReached tree entry)
-reads_some tree entry found records count made distinct start now gained = (
+pub reads_some : (tree : Tree) (record_of : ℕ → ModRecord) (entry found : List ℕ) (records : List ModRecord) (count : ℕ) → AreMade record_of entry found records → IsDistinct nat_eq found → (start now : ReaderView) → ReadsFirst tree found count start now
+    → Gains start now (ReadsFound tree record_of entry)
+reads_some tree record_of entry found records count made distinct start now gained = (
   gained.0,
   gained.1,
   record {
@@ -139,3 +134,36 @@ reads_some tree entry found records count made distinct start now gained = (
     reached = λ set all closed. all-take (λ file. IsTrue (set file)) count found (made.least set all closed);
   },
 )
+
+module _ (record_of : ℕ → ModRecord) (entry found : List ℕ) (records : List ModRecord) (made : AreMade record_of entry found records) (distinct : IsDistinct nat_eq found) where
+  -- what the records count with that of the next file is counted by reached files
+  pub exceeds : (limit : Limit) → length records < length found → number_of limit < counted (records ++ record_of (get_or found (length records) 0) ∷ []) limit → ExceedsReached record_of entry limit
+  exceeds limit pending more =
+      let count = length records in
+      let file = get_or found count 0 in
+      let front : records ++ record_of file ∷ [] ≡ map record_of (take (count + 1) found) =
+      ap (λ front. front ++ record_of file ∷ []) made.records_are ∙ sym (map-append record_of (take count found) (file ∷ [])) ∙ ap (map record_of) (sym (take_more found count 0 pending)) in
+      record {
+        files = take (count + 1) found;
+        distinct = distinct-take (count + 1) found distinct;
+        reached = λ set all closed. all-take (λ file. IsTrue (set file)) (count + 1) found (made.least set all closed);
+        more = subst (λ records. number_of limit < counted records limit) front more;
+      }
+
+  abbrev is_among : ℕ → Bool
+  is_among file = list_any (nat_eq file) found
+
+  among : (files : List ℕ) → AllByRecursion (Contains found) files → HoldsAll is_among files
+  among files all = all-kept (Contains found) (λ file. IsTrue (is_among file)) (λ (file : ℕ) there. list_any-from_Contains nat_eq_equiv file found there) files all
+
+  -- no other reached files count more than all that were found
+  pub none_exceeded : length found ≤ length records → ((limit : Limit) → counted records limit ≤ number_of limit) → (limit : Limit) → ¬ ExceedsReached record_of entry limit
+  unfolding gathered
+  none_exceeded done allowed limit exceeded =
+      let all = gathered record_of entry found records made done distinct in
+      let within = exceeded.reached is_among (among entry made.holds)
+      (λ file there. among (targets_by record_of file) (all.reached.closed file (contained file found there))) in
+      let fewer = counted_within record_of exceeded.files found exceeded.distinct within limit in
+      let few = allowed limit in
+      let equal : counted records limit ≡ counted (map record_of found) limit = ap (λ records. counted records limit) all.records_are in
+      omega (arith, exceeded.more, fewer, few, equal)

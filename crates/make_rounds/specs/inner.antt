@@ -1,2 +1,4 @@
+pub mod Answered
+pub mod Counting
 pub mod Found
 pub mod Gathered

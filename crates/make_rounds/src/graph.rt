@@ -1,19 +1,28 @@
 //! The graph of the records that were gathered.
-ghost use Rattle.std.specs.Prelude.{◌≡◌, ◌<◌, ◌^◌, ◌++◌, flat_map, nat_eq, IsPermutation, OnOk, IfOk};
-ghost use Rattle.std.specs.List.{IsDistinct};
+ghost use Rattle.std.specs.Prelude.{◌≡◌, ◌≤◌, ◌++◌, flat_map, length, nat_eq, IsPermutation, OnOk, IfOk};
+ghost use Rattle.std.specs.List.{AllByRecursion, IsDistinct};
+ghost use Rattle.fault_place.specs.Limit.{number_of};
+ghost use Rattle.fault_place.specs.declared.limit.Limit.TheVariants.{Modules};
+ghost use Rattle.graph_types.specs.Edges.{HasFewItems};
 ghost use Rattle.graph_types.specs.Modules.{AreAscending, files_of};
-ghost use Rattle.make_rounds.specs.inner.Gathered.{AreSimple, IsGraphFrom};
+ghost use Rattle.make_rounds.specs.inner.Gathered.{IsGraphFrom};
 
 use fault_place::{Fault, FileId, NoMemory, Seq};
 use graph_types::{ModRecord, ModuleGraph};
 use std::alloc::Global;
+
+fn file_number(rec: &ModRecord) -> u32
+    ensures { result ≡ rec.now.file.0 }
+{
+    rec.file.0
+}
 
 /// The records in the order of their files, which is that of their paths.
 fn in_file_order(mut records: Vec<ModRecord>) -> Vec<ModRecord>
     ensures same { IsPermutation records.items result.items }
     ensures ascending { IsDistinct nat_eq (files_of records.items) → AreAscending result.items }
 {
-    records.sort_unstable_by_key(|record| record.file.0);
+    records.sort_unstable_by_key(|record| file_number(record));
     records
 }
 
@@ -37,15 +46,16 @@ fn all_faults(faults: Vec<Fault>, records: &[ModRecord]) -> Result<Vec<Fault>, N
     Ok(all)
 }
 
-/// The graph of records of different files, among so many.
+/// The graph of records of different files.
 pub(crate) fn graph(
     alloc: Global,
     records: Vec<ModRecord>,
     entries: &[Seq<FileId>],
     faults: Vec<Fault>,
-    files: u32,
 ) -> Result<ModuleGraph, NoMemory>
-    requires { AreSimple files records.items }
+    requires distinct { IsDistinct nat_eq (files_of records.items) }
+    requires few { length records.items ≤ number_of Modules }
+    requires few_items { AllByRecursion HasFewItems records.items }
     ensures { IfOk result (IsGraphFrom records.items entries.now faults.items) }
 {
     let records = in_file_order(records);

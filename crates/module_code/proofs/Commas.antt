@@ -23,13 +23,18 @@ with_commas-more f (x ∷ xs) (suc i) d within =
     ∙ ap (λ comma. with_commas (map f (take (suc i) (x ∷ xs))) ++ (comma ++ last)) (sym (cond-false _ _ _ later))
 
 -- what a loop has added, one part later
+pub added-at : {X : Type 0} (f : X → List ℕ) (xs : List X) (i : ℕ) (d : X) → i < length xs
+    → (old before between after : List ℕ) → before ≡ old ++ with_commas (map f (take i xs)) → between ≡ before ++ (if i == 0 then [] else codes ",") → after ≡ between ++ f (get_or xs i d)
+    → after ≡ old ++ with_commas (map f (take (i + 1) xs))
+added-at f xs i d within old before between after first comma last =
+    let front = with_commas (map f (take i xs)) in
+    let mark = if i == 0 then [] else codes "," in
+    let part = f (get_or xs i d) in
+    last ∙ ap (λ text. text ++ part) (comma ∙ ap (λ text. text ++ mark) first)
+    ∙ append_assoc (old ++ front) mark part ∙ append_assoc old front (mark ++ part) ∙ ap (λ rest. old ++ rest) (sym (with_commas-more f xs i d within))
+
 pub added-more : {X : Type 0} (f : X → List ℕ) (xs : List X) (i : ℕ) (x : X) → i < length xs → x ≡ get_or xs i x
     → (old before between after : List ℕ) → before ≡ old ++ with_commas (map f (take i xs)) → between ≡ before ++ (if i == 0 then [] else codes ",") → after ≡ between ++ f x
     → after ≡ old ++ with_commas (map f (take (i + 1) xs))
 added-more f xs i x within is old before between after first comma last =
-    let front = with_commas (map f (take i xs)) in
-    let mark = if i == 0 then [] else codes "," in
-    let more : with_commas (map f (take (i + 1) xs)) ≡ front ++ (mark ++ f x) =
-    with_commas-more f xs i x within ∙ ap (λ part. front ++ (mark ++ f part)) (sym is) in
-    last ∙ ap (λ text. text ++ f x) (comma ∙ ap (λ text. text ++ mark) first)
-    ∙ append_assoc (old ++ front) mark (f x) ∙ append_assoc old front (mark ++ f x) ∙ ap (λ rest. old ++ rest) (sym more)
+    added-at f xs i x within old before between after first comma (last ∙ ap (λ part. between ++ f part) is)

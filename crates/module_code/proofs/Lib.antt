@@ -1,3 +1,5 @@
-mod Commas
+mod BlockOrder
+pub mod Commas
 mod Edits
+mod IdTable
 mod Numbering

@@ -1,7 +1,11 @@
 pub mod Binds
+pub mod Blocks
 pub mod Body
 pub mod Exports
+pub mod Ids
+pub mod inner
 pub mod Loads
 pub mod ModuleText
 pub mod Numbers
 pub mod Quoted
+pub mod View

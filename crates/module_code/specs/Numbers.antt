@@ -1,7 +1,6 @@
 -- The numbers by which a module's text names what it imports (this project).
 use Rattle.std.specs.Prelude.{ℕ, ◌==◌, Bool, List, length, map, take, slice_index, count_by, Option, Some, None, option_and_then, if◌then◌else◌}
 use Rattle.std.specs.List.{list_any, range_with_len}
-use Rattle.std.specs.Option.{option_map_or}
 use Rattle.fault_place.specs.declared.number.ModuleNo.{ModuleNo}
 use Rattle.graph_types.specs.declared.binding.Star.{Star}
 use Rattle.graph_types.specs.declared.item.Item.{Item}
@@ -28,7 +27,3 @@ is_starred stars number = list_any (λ star. star.item == number) stars
 -- the module that an item names
 abbrev pub target_of : List ModRecord → Item → Option ModuleNo
 target_of records item = option_and_then (module_of records) item.target
-
--- the id of that module, its number. Where there are no faults, only a `require` names none: 0 stands for any
-abbrev pub target_id : List ModRecord → Item → ℕ
-target_id records item = option_map_or (λ target. target.0) (target_of records item) 0

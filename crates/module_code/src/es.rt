@@ -2,14 +2,16 @@ ghost use Rattle.std.specs.Prelude.{◌≡◌, ◌++◌, OnOk};
 ghost use Rattle.graph_types.specs.Whole.{IsWhole};
 ghost use Rattle.module_code.specs.ModuleText.{imported_names, exported_names, es_text};
 ghost use Rattle.module_code.specs.Numbers.{load_numbers};
+ghost use Rattle.module_code.specs.View.{IsSealing};
 
+use crate::SealView;
 use crate::binds::add_binds;
 use crate::body::add_body;
 use crate::exports::add_exports;
 use crate::loads::add_loads;
 use crate::numbers::load_numbers;
-use fault_place::NoMemory;
-use graph_types::{ModRecord, ModuleGraph};
+use fault_place::{ModuleNo, NoMemory};
+use graph_types::ModRecord;
 use pack_util::add;
 
 fn add_imported_names(text: &mut Vec<u8>, numbers: &[u32], rec: &ModRecord) -> Result<(), NoMemory>
@@ -34,16 +36,22 @@ fn add_exported_names(text: &mut Vec<u8>, numbers: &[u32], rec: &ModRecord) -> R
 }
 
 /// Adds the text of a module with imports or exports.
-pub fn add_es(text: &mut Vec<u8>, graph: &ModuleGraph, rec: &ModRecord) -> Result<(), NoMemory>
-    requires { IsWhole rec.now }
-    ensures { OnOk result (text.new.items ≡ text.old.items ++ es_text graph.now.records rec.now) }
+pub fn add_es(
+    text: &mut Vec<u8>,
+    view: &SealView<'_>,
+    m: ModuleNo,
+    rec: &ModRecord,
+) -> Result<(), NoMemory>
+    requires sealing { IsSealing view.now }
+    requires whole { IsWhole rec.now }
+    ensures { OnOk result (text.new.items ≡ text.old.items ++ es_text view.now m.0 rec.now) }
 {
     let table = load_numbers(*text.allocator(), rec.items.as_slice())?;
     let numbers = table.as_slice();
     add_imported_names(text, numbers, rec)?;
     add_exported_names(text, numbers, rec)?;
-    add_loads(text, graph, numbers, rec)?;
+    add_loads(text, view, numbers, rec)?;
     add(text, b"\n")?;
-    add_body(text, graph, rec)?;
+    add_body(text, view, m, rec)?;
     add(text, b"\n}).call(undefined)}}")
 }

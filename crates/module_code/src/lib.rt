@@ -6,14 +6,21 @@
 #![tactic(auto)]
 
 mod binds;
+mod blocks;
 mod body;
 mod es;
 mod exports;
+mod id_table;
+mod ids;
 mod laws;
 mod loads;
 mod module;
 mod numbers;
 mod quoted;
+mod view;
 
-pub use laws::{declarations_are_counted, unedited_text_stays};
-pub use module::module_text;
+pub use ids::{add_ids, add_module_id, chunk_id, chunk_ids};
+pub use laws::{blocks_are_found, declarations_are_counted, unedited_text_stays};
+pub use module::{add_module, module_text};
+pub use quoted::{add_comma, add_quoted};
+pub use view::SealView;

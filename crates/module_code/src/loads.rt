@@ -1,17 +1,26 @@
 ghost use Rattle.std.specs.Prelude.{◌≡◌, ◌++◌, [], OnOk, if◌then◌else◌};
+ghost use Rattle.module_code.specs.Ids.{target_id};
 ghost use Rattle.module_code.specs.Loads.{one_load, star_text, item_load, loads_text};
 ghost use Rattle.module_code.specs.Numbers.{load_numbers};
 
-use crate::numbers::{declares, starred_items, target_id};
+use crate::SealView;
+use crate::ids::add_target_id;
+use crate::numbers::{declares, starred_items};
 use fault_place::NoMemory;
-use graph_types::{Item, ModRecord, ModuleGraph};
-use pack_util::add_around;
+use graph_types::{Item, ModRecord};
+use pack_util::{add, add_around};
 
-fn add_one_load(text: &mut Vec<u8>, number: u64, id: u64) -> Result<(), NoMemory>
-    ensures { OnOk result (text.new.items ≡ text.old.items ++ one_load number id) }
+fn add_one_load(
+    text: &mut Vec<u8>,
+    view: &SealView<'_>,
+    number: u64,
+    item: &Item,
+) -> Result<(), NoMemory>
+    ensures { OnOk result (text.new.items ≡ text.old.items ++ one_load number (target_id view.now item.now)) }
 {
     add_around(text, b"__cp_i[", number, b"]=__cp(")?;
-    add_around(text, b"", id, b");")
+    add_target_id(text, view, item)?;
+    add(text, b");")
 }
 
 fn add_star(text: &mut Vec<u8>, number: u64, starred: bool) -> Result<(), NoMemory>
@@ -25,15 +34,15 @@ fn add_star(text: &mut Vec<u8>, number: u64, starred: bool) -> Result<(), NoMemo
 
 fn add_item_load(
     text: &mut Vec<u8>,
-    graph: &ModuleGraph,
+    view: &SealView<'_>,
     number: u64,
     starred: bool,
     item: &Item,
 ) -> Result<(), NoMemory>
-    ensures { OnOk result (text.new.items ≡ text.old.items ++ item_load graph.now.records number starred item.now) }
+    ensures { OnOk result (text.new.items ≡ text.old.items ++ item_load view.now number starred item.now) }
 {
     if declares(item.kind) {
-        add_one_load(text, number, target_id(graph, item))?;
+        add_one_load(text, view, number, item)?;
         add_star(text, number, starred)?;
     }
     Ok(())
@@ -42,17 +51,17 @@ fn add_item_load(
 /// Adds the loads of a module's imports.
 pub fn add_loads(
     text: &mut Vec<u8>,
-    graph: &ModuleGraph,
+    view: &SealView<'_>,
     numbers: &[u32],
     rec: &ModRecord,
 ) -> Result<(), NoMemory>
     requires { numbers.now ≡ load_numbers rec.now.items }
-    ensures { OnOk result (text.new.items ≡ text.old.items ++ loads_text graph.now.records rec.now) }
+    ensures { OnOk result (text.new.items ≡ text.old.items ++ loads_text view.now rec.now) }
 {
     let items = rec.items.as_slice();
     let starred = starred_items(*text.allocator(), rec.stars.as_slice(), items.len())?;
     for (place, item) in items.iter().enumerate() {
-        add_item_load(text, graph, numbers[place] as u64, starred[place], item)?;
+        add_item_load(text, view, numbers[place] as u64, starred[place], item)?;
     }
     Ok(())
 }

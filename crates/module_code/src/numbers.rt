@@ -1,6 +1,6 @@
 ghost use Rattle.std.specs.Prelude.{◌≡◌, ℕ, ◌<◌, ◌^◌, length, map, vec_len, slice_index, slice_index_or, false, IfOk};
 ghost use Rattle.graph_types.specs.Whole.{declares};
-ghost use Rattle.module_code.specs.Numbers.{load_numbers, is_starred, target_of, target_id};
+ghost use Rattle.module_code.specs.Numbers.{load_numbers, is_starred, target_of};
 
 use fault_place::{ModuleNo, NoMemory};
 use graph_types::{Item, ItemKind, ModuleGraph, Star};
@@ -62,14 +62,4 @@ pub fn target_of(graph: &ModuleGraph, item: &Item) -> Option<ModuleNo>
     ensures { result ≡ target_of graph.now.records item.now }
 {
     graph.module_of(item.target?)
-}
-
-/// The id of the module that an item names. Without a module, which is a fault, it is 0.
-pub fn target_id(graph: &ModuleGraph, item: &Item) -> u64
-    ensures { result ≡ target_id graph.now.records item.now }
-{
-    match target_of(graph, item) {
-        Some(target) => target.0 as u64,
-        None => 0,
-    }
 }

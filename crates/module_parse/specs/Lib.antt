@@ -1,3 +1,4 @@
 pub mod Bare
 pub mod Parsed
 pub mod Scripts
+pub mod Whole

@@ -2,6 +2,7 @@
 ghost use Rattle.std.specs.Prelude.{◌≡◌, ◌≤◌, ◌||◌, codes, nat_eq, length, IfOk};
 ghost use Rattle.std.specs.List.{ends_with};
 ghost use Rattle.module_parse.specs.Parsed.{IsReading, Reading, is_json, is_script, json_record, parsed_record, value_record};
+ghost use Rattle.module_parse.specs.Whole.{IsParsed};
 
 use crate::bare::{bare_record, faulty_record};
 use crate::script::script_record;
@@ -42,7 +43,9 @@ fn value_record(alloc: Global, file: FileId, path: &str, text: Bytes) -> Result<
 
 /// The record of a text that is to be one JSON value.
 fn json_record(alloc: Global, file: FileId, path: &str, text: Bytes) -> Result<ModRecord, NoMemory>
-    ensures { (reading : Reading) → IsReading reading → IfOk result (λ rec. rec ≡ json_record file path.now text (reading text)) }
+    requires { length text ≤ MAX_TEXT }
+    ensures is { (reading : Reading) → IsReading reading → IfOk result (λ rec. rec ≡ json_record file path.now text (reading text)) }
+    ensures whole { IfOk result (IsParsed file) }
 {
     faults_lie_in_the_text();
     match read(alloc, text.get()) {
@@ -63,7 +66,8 @@ fn json_record(alloc: Global, file: FileId, path: &str, text: Bytes) -> Result<M
 /// The record of the text of the file at a path, before its requests are resolved.
 pub fn parse(alloc: Global, file: FileId, path: &str, text: Bytes) -> Result<ModRecord, NoMemory>
     requires { length text ≤ MAX_TEXT }
-    ensures { (reading : Reading) → IsReading reading → IfOk result (λ rec. rec ≡ parsed_record reading file path.now text) }
+    ensures is { (reading : Reading) → IsReading reading → IfOk result (λ rec. rec ≡ parsed_record reading file path.now text) }
+    ensures whole { IfOk result (IsParsed file) }
 {
     if is_json(path) {
         json_record(alloc, file, path, text)

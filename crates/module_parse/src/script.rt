@@ -3,8 +3,10 @@ ghost use Rattle.std.specs.Prelude.{◌≡◌, ◌≤◌, length, IfOk, Ok};
 ghost use Rattle.es_tokens.specs.Tokens.{tokens_of};
 ghost use Rattle.es_scan.specs.Scan.{scan_of};
 ghost use Rattle.module_parse.specs.Scripts.{fault_kind, scanned_record, script_kind, script_record};
+ghost use Rattle.module_parse.specs.Whole.{IsParsed};
 
 use crate::bare::{bare_record, faulty_record};
+use es_scan::laws::scan_is_whole;
 use es_scan::{Scan, scan};
 use es_tokens::laws::faults_lie_in_the_text;
 use es_tokens::{Token, TokenEnd, TokenKind, tokens};
@@ -64,8 +66,10 @@ fn record_of_tokens(
 ) -> Result<ModRecord, NoMemory>
     requires short { length text ≤ MAX_TEXT }
     requires tokens { tokens_of text ≡ Ok tokens.now }
-    ensures { IfOk result (λ rec. rec ≡ scanned_record file path.now text (scan_of path.now text tokens.now)) }
+    ensures is { IfOk result (λ rec. rec ≡ scanned_record file path.now text (scan_of path.now text tokens.now)) }
+    ensures whole { IfOk result (IsParsed file) }
 {
+    scan_is_whole();
     let scan = scan(alloc, path, text.get(), tokens)?;
     scanned_record(alloc, file, path, text, scan)
 }
@@ -78,7 +82,8 @@ pub fn script_record(
     text: Bytes,
 ) -> Result<ModRecord, NoMemory>
     requires { length text ≤ MAX_TEXT }
-    ensures { IfOk result (λ rec. rec ≡ script_record file path.now text (tokens_of text)) }
+    ensures is { IfOk result (λ rec. rec ≡ script_record file path.now text (tokens_of text)) }
+    ensures whole { IfOk result (IsParsed file) }
 {
     faults_lie_in_the_text();
     match tokens(alloc, text.get()) {

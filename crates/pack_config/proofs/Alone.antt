@@ -11,7 +11,7 @@ use Rattle.json_order.specs.declared.tree.JsonTree.{JsonTree}
 use Rattle.pack_config.specs.declared.fault.ConfigFault.{ConfigFault}
 use Rattle.pack_config.specs.declared.fault.ConfigKind.{ConfigKind}
 use Rattle.pack_config.specs.declared.fault.ConfigKind.TheVariants.{TooLong, Json, UnknownKey, WrongType, OutOfRange, Repeated}
-use Rattle.pack_config.specs.Answer.{AreAlike, IsAnswer, IsAnswerBy, IsAnswerIn, IsConfigOf, AreSame}
+use Rattle.pack_config.specs.Answer.{AreAlike, IsConfigAnswer, IsAnswerBy, IsAnswerIn, IsConfigOf, AreSame}
 use Rattle.pack_config.specs.Faults.{IsLeast, precedes, rank}
 
 -- ---- one least fault
@@ -99,7 +99,7 @@ by_read text (Ok tree) one other is_one is_other = in_tree text tree one other i
 by_read text (Err stop) one other is_one is_other = both_faults _ one other is_one is_other
 
 pub one_configuration : ((text : List ℕ) (one other : Result JsonTree JsonFault) → json.IsAnswer text one → json.IsAnswer text other → one ≡ other) →
-    (text : List ℕ) (one other : Result Config ConfigFault) → IsAnswer text one → IsAnswer text other → AreAlike one other
+    (text : List ℕ) (one other : Result Config ConfigFault) → IsConfigAnswer text one → IsConfigAnswer text other → AreAlike one other
 one_configuration one_tree text one other (inl long) (inl also) = both_faults _ one other long.1 also.1
 one_configuration one_tree text one other (inl long) (inr short) = absurd (omega (arith, long.0, short.0))
 one_configuration one_tree text one other (inr short) (inl long) = absurd (omega (arith, long.0, short.0))

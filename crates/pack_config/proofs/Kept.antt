@@ -11,7 +11,7 @@ use Rattle.graph_types.specs.declared.cache_group.CacheGroup.{CacheGroup}
 use Rattle.pack_config.specs.declared.shared.Base.{Base}
 use Rattle.pack_config.specs.Entries.{entries_by, entries_in, entries_of, entry_rule}
 use Rattle.pack_config.specs.Splits.{base_of, default_group, enforced, group_count, group_of, groups_by, groups_in, groups_of, groups_rule, groups_with, is_default, is_enforced, is_group, limits_of, limits_rule, member_rule, split_keys, missing_keys, most, split_by, split_object, split_of, split_rule}
-use Rattle.pack_config.specs.Values.{false_or, object_with, only_false, out_of_range, pairs_of, truth_of, truth_value, value_at, where_given, whole_of, within}
+use Rattle.pack_config.specs.Values.{false_or, object_with, only_false, out_of_range, object_pairs, truth_of, truth_value, value_at, where_given, whole_of, within}
 use Rattle.pack_config.proofs.Least.{empty_parts}
 use Rattle.pack_config.proofs.Totals.{counted}
 
@@ -24,7 +24,7 @@ by_pairs text tree (Some (pair ∷ pairs)) e = omega arith
 
 pub some_entry : (text : List ℕ) (value : Option JsonTree) → where_given entry_rule value ≡ [] → 1 ≤ length (entries_of text value)
 some_entry text None e = omega arith
-some_entry text (Some tree) e = by_pairs text tree (pairs_of tree) e
+some_entry text (Some tree) e = by_pairs text tree (object_pairs tree) e
 
 -- ---- at most 16 groups
 
@@ -48,7 +48,7 @@ by_given text base tree (Some pairs) e =
 
 by_value : (text : List ℕ) (base : Base) (value : Option JsonTree) → where_given groups_rule value ≡ [] → length (groups_of text base value) ≤ 16
 by_value text base None e = none_given text base
-by_value text base (Some tree) e = by_given text base tree (pairs_of tree) e
+by_value text base (Some tree) e = by_given text base tree (object_pairs tree) e
 
 by_truth : (text : List ℕ) (tree : JsonTree) (truth : Option Bool) → false_or split_object truth tree ≡ [] → length (split_by text truth (Some tree)) ≤ 16
 by_truth text tree (Some truth) e = omega arith
@@ -108,7 +108,7 @@ by_counted text base (Some pairs) e = with_counted text base pairs e
 
 of_counted : (text : List ℕ) (base : Base) (value : Option JsonTree) → leb 1 base.min_chunks ≡ true → list_all is_counted (groups_of text base value) ≡ true
 of_counted text base None e = with_counted text base [] e
-of_counted text base (Some tree) e = by_counted text base (pairs_of tree) e
+of_counted text base (Some tree) e = by_counted text base (object_pairs tree) e
 
 by_split : (text : List ℕ) (truth : Option Bool) (value : Option JsonTree) → list_all is_counted (split_by text truth value) ≡ true
 by_split text None value = of_counted text (base_of (limits_of value)) (value_at (codes "cacheGroups") value) (base_counts value)

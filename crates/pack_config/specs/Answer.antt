@@ -53,16 +53,16 @@ IsAnswerBy text (Ok tree) answer = IsAnswerIn text tree answer
 IsAnswerBy text (Err stop) answer = answer ≡ Err (config_fault Json stop.offset)
 
 -- the answer of a text: one that is too long is not read
-abbrev pub IsAnswer : List ℕ → Result Config ConfigFault → Type 0
-IsAnswer text answer =
+abbrev pub IsConfigAnswer : List ℕ → Result Config ConfigFault → Type 0
+IsConfigAnswer text answer =
     ((size_limit < length text) × (answer ≡ Err (config_fault TooLong 0)))
     ⊎ ((length text ≤ size_limit) × ((read : Result JsonTree JsonFault) × json.IsAnswer text read × IsAnswerBy text read answer))
 
 -- the result of a call is an answer, unless memory ran out
-abbrev pub AnswersBy : (Result Config ConfigFault → Type 0) → Result Config ConfigEnd → Type 0
-AnswersBy Is (Ok config) = Is (Ok config)
-AnswersBy Is (Err (Fault fault)) = Is (Err fault)
-AnswersBy Is (Err NoMemory) = Unit {0}
+abbrev pub ConfigAnswersBy : (Result Config ConfigFault → Type 0) → Result Config ConfigEnd → Type 0
+ConfigAnswersBy Is (Ok config) = Is (Ok config)
+ConfigAnswersBy Is (Err (Fault fault)) = Is (Err fault)
+ConfigAnswersBy Is (Err NoMemory) = Unit {0}
 
 -- two configurations with the same values: of a template its parts are the value
 pub record AreSame (one other : Config) : Type 0 where

@@ -39,8 +39,8 @@ abbrev pub nothing : Condition
 nothing = condition.And []
 
 -- what a member of an object means, by its key; another key isn't known
-abbrev pub named : Named → Option (Meant Condition)
-named member =
+abbrev pub known_meaning : Named → Option (Meant Condition)
+known_meaning member =
     if bytes_eq member.key (codes "prefix") then Some (meant (condition.Prefix member.meanings.text.value) member.meanings.text.faults)
     else (if bytes_eq member.key (codes "contains") then Some (meant (condition.Contains member.meanings.text.value) member.meanings.text.faults)
     else (if bytes_eq member.key (codes "endsWith") then Some (meant (condition.EndsWith member.meanings.text.value) member.meanings.text.faults)
@@ -51,14 +51,14 @@ named member =
     else None))))))
 
 abbrev pub condition_at : Named → Option Condition
-condition_at member = option_map (λ condition. condition.value) (named member)
+condition_at member = option_map (λ condition. condition.value) (known_meaning member)
 
 abbrev pub faults_or_unknown : Option (Meant Condition) → Named → List ConfigFault
 faults_or_unknown None member = config_fault UnknownKey member.key_at ∷ []
 faults_or_unknown (Some condition) member = condition.faults
 
 abbrev pub named_faults : Named → List ConfigFault
-named_faults member = faults_or_unknown (named member) member
+named_faults member = faults_or_unknown (known_meaning member) member
 
 -- exactly one member counts
 abbrev pub only_of : ℕ → List Condition → Meant Condition

@@ -10,7 +10,7 @@ use Rattle.path_text.specs.Path.{is_normal}
 use Rattle.pack_config.specs.declared.fault.ConfigFault.{ConfigFault}
 use Rattle.pack_config.specs.declared.fault.ConfigKind.TheVariants.{OutOfRange}
 use Rattle.pack_config.specs.Faults.{config_fault}
-use Rattle.pack_config.specs.Values.{any_text, object_with, items_of, out_of_range, pairs_of, text_of, value_at}
+use Rattle.pack_config.specs.Values.{any_text, object_with, items_of, out_of_range, object_pairs, text_of, value_at}
 
 -- ---- faults
 
@@ -39,7 +39,7 @@ import_of tree = unwrap_or (value_at (codes "import") (Some tree)) tree
 
 -- a text or a list, or an object with these at `import` and nothing else
 abbrev pub described_rule : JsonTree → List ConfigFault
-described_rule tree = described_keys (pairs_of tree) tree ++ files_rule (import_of tree)
+described_rule tree = described_keys (object_pairs tree) tree ++ files_rule (import_of tree)
 
 -- its name is a normal path
 abbrev pub named_rule : JsonPair → List ConfigFault
@@ -51,7 +51,7 @@ entries_in (Some pairs) tree = empty_list pairs tree ++ flat_map named_rule pair
 
 -- a text, a list, or an object of names that isn't empty
 abbrev pub entry_rule : JsonTree → List ConfigFault
-entry_rule tree = entries_in (pairs_of tree) tree
+entry_rule tree = entries_in (object_pairs tree) tree
 
 -- ---- the entries
 
@@ -62,23 +62,23 @@ abbrev pub files_by : List ℕ → Option (List JsonTree) → JsonTree → List 
 files_by text None tree = option_to_list (file_of text tree)
 files_by text (Some items) tree = filter_map (file_of text) items
 
-abbrev pub files_of : List ℕ → JsonTree → List EntryFile
-files_of text tree = files_by text (items_of tree) tree
+abbrev pub import_files : List ℕ → JsonTree → List EntryFile
+import_files text tree = files_by text (items_of tree) tree
 
 abbrev pub entry_of : List ℕ → JsonPair → EntrySpec
-entry_of text pair = record { name = pair.key; files = files_of text (import_of pair.value) }
+entry_of text pair = record { name = pair.key; files = import_files text (import_of pair.value) }
 
 abbrev pub main_entry : List EntryFile → List EntrySpec
 main_entry files = record { name = codes "main"; files = files } ∷ []
 
 -- the default, whose place is the first
-abbrev pub default_files : List EntryFile
-default_files = record { request = codes "./src/index.js"; at = record { offset = 0; line = 1; column = 1 } } ∷ []
+abbrev pub default_entry_files : List EntryFile
+default_entry_files = record { request = codes "./src/index.js"; at = record { offset = 0; line = 1; column = 1 } } ∷ []
 
 abbrev pub entries_by : List ℕ → Option (List JsonPair) → JsonTree → List EntrySpec
-entries_by text None tree = main_entry (files_of text tree)
+entries_by text None tree = main_entry (import_files text tree)
 entries_by text (Some pairs) tree = map (entry_of text) pairs
 
 abbrev pub entries_of : List ℕ → Option JsonTree → List EntrySpec
-entries_of text None = main_entry default_files
-entries_of text (Some tree) = entries_by text (pairs_of tree) tree
+entries_of text None = main_entry default_entry_files
+entries_of text (Some tree) = entries_by text (object_pairs tree) tree

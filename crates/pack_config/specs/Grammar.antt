@@ -10,7 +10,7 @@ use Rattle.pack_config.specs.Entries.{entry_rule}
 use Rattle.pack_config.specs.Faults.{config_fault}
 use Rattle.pack_config.specs.Splits.{split_rule}
 use Rattle.pack_config.specs.Templates.{template_rule}
-use Rattle.pack_config.specs.Values.{any_text, any_truth, object_with, one_of, only_false, pairs_of, text_of, texts, value_at, where_given, whole, whole_value, wrong_type}
+use Rattle.pack_config.specs.Values.{any_text, any_truth, object_with, one_of, only_false, object_pairs, text_of, any_texts, value_at, where_given, whole, whole_value, wrong_type}
 
 -- ---- output
 
@@ -49,7 +49,7 @@ alias_in (Some pairs) tree = flat_map alias_member pairs
 
 -- an object of texts, none at the key of nothing
 abbrev pub alias_rule : JsonTree → List ConfigFault
-alias_rule tree = alias_in (pairs_of tree) tree
+alias_rule tree = alias_in (object_pairs tree) tree
 
 abbrev pub aliases_by : Option (List JsonPair) → List (List ℕ × List ℕ)
 aliases_by None = []
@@ -57,16 +57,16 @@ aliases_by (Some pairs) = filter_map (λ pair. option_map (λ target. (pair.key,
 
 abbrev pub aliases_of : Option JsonTree → List (List ℕ × List ℕ)
 aliases_of None = []
-aliases_of (Some tree) = aliases_by (pairs_of tree)
+aliases_of (Some tree) = aliases_by (object_pairs tree)
 
 abbrev pub resolve_rule : Option JsonTree → List ConfigFault
 resolve_rule resolve =
     where_given (object_with resolve_keys) resolve
     ++ (where_given alias_rule (value_at (codes "alias") resolve)
-    ++ (where_given texts (value_at (codes "extensions") resolve)
-    ++ (where_given texts (value_at (codes "mainFields") resolve)
-    ++ (where_given texts (value_at (codes "mainFiles") resolve)
-    ++ where_given texts (value_at (codes "conditionNames") resolve)))))
+    ++ (where_given any_texts (value_at (codes "extensions") resolve)
+    ++ (where_given any_texts (value_at (codes "mainFields") resolve)
+    ++ (where_given any_texts (value_at (codes "mainFiles") resolve)
+    ++ where_given any_texts (value_at (codes "conditionNames") resolve)))))
 
 abbrev pub default_extensions : List (List ℕ)
 default_extensions = codes ".js" ∷ codes ".json" ∷ []

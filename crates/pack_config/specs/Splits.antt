@@ -19,7 +19,7 @@ use Rattle.pack_config.specs.declared.shared.Base.{Base}
 use Rattle.pack_config.specs.declared.shared.Limits.{Limits}
 use Rattle.pack_config.specs.Conditions.{condition_of, condition_rule, nothing}
 use Rattle.pack_config.specs.Faults.{config_fault}
-use Rattle.pack_config.specs.Values.{any_truth, false_or, object_with, one_of, only_false, out_of_range, pairs_of, signed, signed_value, text_of, text_value, truth_of, truth_value, value_at, where_given, whole, whole_value, wrong_type}
+use Rattle.pack_config.specs.Values.{any_truth, false_or, object_with, one_of, only_false, out_of_range, object_pairs, signed, signed_value, text_of, text_value, truth_of, truth_value, value_at, where_given, whole, whole_value, wrong_type}
 
 -- ---- what `splitChunks` and each group may say
 
@@ -134,7 +134,7 @@ group_of text base pair =
 
 -- `false` removes a group
 abbrev pub is_group : JsonPair → Bool
-is_group pair = is_some (pairs_of pair.value)
+is_group pair = is_some (object_pairs pair.value)
 
 abbrev pub member_in : Option (List JsonPair) → JsonTree → List ConfigFault
 member_in None tree = only_false tree
@@ -142,7 +142,7 @@ member_in (Some pairs) tree = group_rule tree
 
 -- `false`, or a group
 abbrev pub member_rule : JsonPair → List ConfigFault
-member_rule pair = member_in (pairs_of pair.value) pair.value
+member_rule pair = member_in (object_pairs pair.value) pair.value
 
 -- the keys of the two default groups that aren't given
 abbrev pub default_keys : List (List ℕ)
@@ -183,7 +183,7 @@ groups_by text base (Some pairs) = groups_with text base pairs
 
 abbrev pub groups_of : List ℕ → Base → Option JsonTree → List CacheGroup
 groups_of text base None = groups_with text base []
-groups_of text base (Some tree) = groups_by text base (pairs_of tree)
+groups_of text base (Some tree) = groups_by text base (object_pairs tree)
 
 -- the default ones among them
 abbrev pub group_count : List JsonPair → ℕ
@@ -226,7 +226,7 @@ groups_in (Some pairs) tree =
     ++ repeated_in pairs)
 
 abbrev pub groups_rule : JsonTree → List ConfigFault
-groups_rule tree = groups_in (pairs_of tree) tree
+groups_rule tree = groups_in (object_pairs tree) tree
 
 -- ---- splitChunks
 

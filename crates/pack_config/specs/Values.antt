@@ -39,8 +39,8 @@ pairs_in _ = None
 abbrev pub truth_of : JsonTree → Option Bool
 truth_of tree = truth_in (out-JsonNode tree.node)
 
-abbrev pub number_of : JsonTree → Option (List ℕ)
-number_of tree = number_in (out-JsonNode tree.node)
+abbrev pub number_word : JsonTree → Option (List ℕ)
+number_word tree = number_in (out-JsonNode tree.node)
 
 abbrev pub text_of : JsonTree → Option (List ℕ)
 text_of tree = text_in (out-JsonNode tree.node)
@@ -48,12 +48,12 @@ text_of tree = text_in (out-JsonNode tree.node)
 abbrev pub items_of : JsonTree → Option (List JsonTree)
 items_of tree = items_in (out-JsonNode tree.node)
 
-abbrev pub pairs_of : JsonTree → Option (List JsonPair)
-pairs_of tree = pairs_in (out-JsonNode tree.node)
+abbrev pub object_pairs : JsonTree → Option (List JsonPair)
+object_pairs tree = pairs_in (out-JsonNode tree.node)
 
 -- the members of an object, none of another value
 abbrev pub members_of : JsonTree → List JsonPair
-members_of tree = unwrap_or (pairs_of tree) []
+members_of tree = unwrap_or (object_pairs tree) []
 
 -- the value of a member, where there is an object that has it
 abbrev pub value_at : List ℕ → Option JsonTree → Option JsonTree
@@ -100,8 +100,8 @@ abbrev pub each_of : (JsonTree → List ConfigFault) → Option (List JsonTree) 
 each_of rule None tree = wrong_type tree
 each_of rule (Some items) tree = flat_map rule items
 
-abbrev pub texts : JsonTree → List ConfigFault
-texts tree = each_of any_text (items_of tree) tree
+abbrev pub any_texts : JsonTree → List ConfigFault
+any_texts tree = each_of any_text (items_of tree) tree
 
 -- a key that is listed
 abbrev pub is_listed : List (List ℕ) → List ℕ → Bool
@@ -116,7 +116,7 @@ keys_in keys None tree = wrong_type tree
 keys_in keys (Some pairs) tree = flat_map (unknown_key keys) pairs
 
 abbrev pub object_with : List (List ℕ) → JsonTree → List ConfigFault
-object_with keys tree = keys_in keys (pairs_of tree) tree
+object_with keys tree = keys_in keys (object_pairs tree) tree
 
 -- ---- whole numbers
 
@@ -129,7 +129,7 @@ abbrev pub whole_in : List ℕ → Option ℕ
 whole_in word = if is_whole word then Some (digits_value 10 word) else None
 
 abbrev pub whole_of : JsonTree → Option ℕ
-whole_of tree = option_and_then whole_in (number_of tree)
+whole_of tree = option_and_then whole_in (number_word tree)
 
 abbrev pub is_within : ℕ → ℕ → ℕ → Bool
 is_within low high number = nat_le low number && nat_le number high
@@ -164,7 +164,7 @@ signed_in None tree = wrong_type tree
 signed_in (Some word) tree = checked (fits_32 (has_minus word)) (whole_in (magnitude_of word)) tree
 
 abbrev pub signed : JsonTree → List ConfigFault
-signed tree = signed_in (number_of tree) tree
+signed tree = signed_in (number_word tree) tree
 
 abbrev pub signed_within : Bool → Option ℕ → Option ℤ
 signed_within minus None = None
@@ -174,7 +174,7 @@ abbrev pub signed_word : List ℕ → Option ℤ
 signed_word word = signed_within (has_minus word) (whole_in (magnitude_of word))
 
 abbrev pub signed_value : Option JsonTree → Option ℤ
-signed_value value = option_and_then signed_word (option_and_then number_of value)
+signed_value value = option_and_then signed_word (option_and_then number_word value)
 
 -- ---- values of the other kinds, where they are there
 

@@ -1,6 +1,6 @@
 //! The conditions of cache groups.
 ghost use Rattle.std.specs.Prelude.{◌≡◌, ◌++◌, map, filter_map, flat_map, option_to_list, IfOk, OnOk};
-ghost use Rattle.pack_config.specs.Conditions.{condition_at, condition_of, condition_rule, meanings_of, member_of, named, named_faults, nothing, only_of};
+ghost use Rattle.pack_config.specs.Conditions.{condition_at, condition_of, condition_rule, meanings_of, member_of, known_meaning, named_faults, nothing, only_of};
 ghost use Rattle.pack_config.specs.inner.Found.{after};
 ghost use Rattle.pack_config.specs.inner.Known.{known_faults};
 
@@ -115,7 +115,7 @@ fn named_condition(
     found: &mut Found,
     pair: &JsonPair,
 ) -> Result<Option<Condition>, NoMemory>
-    ensures faults { OnOk result (found.new ≡ after found.old (known_faults (named (member_of pair.now)))) }
+    ensures faults { OnOk result (found.new ≡ after found.old (known_faults (known_meaning (member_of pair.now)))) }
     ensures value { IfOk result (λ condition. condition ≡ condition_at (member_of pair.now)) }
 {
     let value = &pair.value;

@@ -1,7 +1,7 @@
 //! The entries: the files from which a build starts.
 ghost use Rattle.std.specs.Prelude.{◌≡◌, ◌++◌, map, filter_map, flat_map, option_to_list, IfOk, OnOk};
 ghost use Rattle.std.specs.Option.{option_copied};
-ghost use Rattle.pack_config.specs.Entries.{default_files, empty_list, entries_of, entry_of, entry_rule, file_of, files_of, files_rule, main_entry, named_rule};
+ghost use Rattle.pack_config.specs.Entries.{default_entry_files, empty_list, entries_of, entry_of, entry_rule, file_of, import_files, files_rule, main_entry, named_rule};
 ghost use Rattle.pack_config.specs.Values.{any_text, where_given};
 ghost use Rattle.pack_config.specs.inner.Found.{after};
 
@@ -40,7 +40,7 @@ pub(crate) fn entries(
 }
 
 fn default_entries(alloc: Global) -> Result<Seq<EntrySpec>, NoMemory>
-    ensures { IfOk result (λ all. all ≡ main_entry default_files) }
+    ensures { IfOk result (λ all. all ≡ main_entry default_entry_files) }
 {
     let mut files = Seq::new(alloc);
     files.push(EntryFile {
@@ -113,7 +113,7 @@ fn files(
     tree: &JsonTree,
 ) -> Result<Seq<EntryFile>, NoMemory>
     ensures faults { OnOk result (found.new ≡ after found.old (files_rule tree.now)) }
-    ensures value { IfOk result (λ all. all ≡ files_of places.now tree.now) }
+    ensures value { IfOk result (λ all. all ≡ import_files places.now tree.now) }
 {
     match &tree.node {
         JsonNode::List(items) => listed_files(alloc, found, places, tree, items.as_slice()),

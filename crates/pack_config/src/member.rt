@@ -2,7 +2,7 @@
 ghost use Rattle.std.specs.Prelude.{◌≡◌, bytes_eq, find, map, option_map};
 ghost use Rattle.std.specs.List.{list_any};
 ghost use Rattle.std.specs.Option.{option_copied};
-ghost use Rattle.pack_config.specs.Values.{is_listed, items_of, members_of, number_of, pairs_of, text_of, truth_of, value_at};
+ghost use Rattle.pack_config.specs.Values.{is_listed, items_of, members_of, number_word, object_pairs, text_of, truth_of, value_at};
 
 use json_order::{JsonNode, JsonPair, JsonTree};
 
@@ -16,7 +16,7 @@ pub(crate) fn truth_of(tree: &JsonTree) -> Option<bool>
 }
 
 pub(crate) fn number_of(tree: &JsonTree) -> Option<&str>
-    ensures { option_copied result ≡ number_of tree.now }
+    ensures { option_copied result ≡ number_word tree.now }
 {
     match &tree.node {
         JsonNode::Number(word) => Some(word.get()),
@@ -43,7 +43,7 @@ pub(crate) fn items_of(tree: &JsonTree) -> Option<&[JsonTree]>
 }
 
 pub(crate) fn pairs_of(tree: &JsonTree) -> Option<&[JsonPair]>
-    ensures { option_copied result ≡ pairs_of tree.now }
+    ensures { option_copied result ≡ object_pairs tree.now }
 {
     match &tree.node {
         JsonNode::Object(pairs) => Some(pairs.as_slice()),

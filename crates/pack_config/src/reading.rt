@@ -1,6 +1,6 @@
 ghost use Rattle.std.specs.Prelude.{◌≡◌, [], Some, codes, IfOk, OnOk};
 ghost use Rattle.std.specs.Option.{option_copied};
-ghost use Rattle.pack_config.specs.Answer.{AnswersBy, IsAnswer, IsAnswerIn};
+ghost use Rattle.pack_config.specs.Answer.{ConfigAnswersBy, IsConfigAnswer, IsAnswerIn};
 ghost use Rattle.pack_config.specs.Faults.{config_fault};
 ghost use Rattle.pack_config.specs.Grammar.{faults_of, optimization_rule, output_rule};
 ghost use Rattle.pack_config.specs.Values.{value_at};
@@ -26,7 +26,7 @@ use std::alloc::Global;
 
 /// The configuration that a text is, or its first fault.
 pub fn read_config(alloc: Global, text: &[u8]) -> Result<Config, ConfigEnd>
-    ensures { AnswersBy (IsAnswer text.now) result }
+    ensures { ConfigAnswersBy (IsConfigAnswer text.now) result }
 {
     if text.len() as u64 > MAX_TEXT {
         return Err(fault(0, ConfigKind::TooLong));
@@ -53,7 +53,7 @@ fn fault(offset: u64, kind: ConfigKind) -> ConfigEnd
 }
 
 fn config_of(alloc: Global, text: &[u8], tree: &JsonTree) -> Result<Config, ConfigEnd>
-    ensures { AnswersBy (IsAnswerIn text.now tree.now) result }
+    ensures { ConfigAnswersBy (IsAnswerIn text.now tree.now) result }
 {
     let mut found = Found::new();
     let parts = read_parts(alloc, &mut found, text, tree)?;

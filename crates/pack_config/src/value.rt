@@ -1,7 +1,7 @@
 //! One call for each kind of value that a key wants: it notes the faults of a value, and answers what the value is.
 ghost use Rattle.std.specs.Prelude.{◌≡◌, ◌≤◌, ◌++◌, map, flat_map, filter_map, option_to_list, None, IsTrue, IfOk, OnOk, MatchOption};
 ghost use Rattle.std.specs.Option.{option_copied};
-ghost use Rattle.pack_config.specs.Values.{any_text, any_truth, each_of, is_listed, keys_in, object_with, one_of, only_false, signed, signed_value, text_of, text_value, texts, texts_value, truth_value, is_whole, unknown_key, where_given, whole, whole_in, whole_of, whole_value};
+ghost use Rattle.pack_config.specs.Values.{any_text, any_truth, each_of, is_listed, keys_in, object_with, one_of, only_false, signed, signed_value, text_of, text_value, any_texts, texts_value, truth_value, is_whole, unknown_key, where_given, whole, whole_in, whole_of, whole_value};
 ghost use Rattle.pack_config.specs.inner.Found.{after};
 
 use crate::ConfigKind;
@@ -110,7 +110,7 @@ pub(crate) fn texts(
     value: Option<&JsonTree>,
     defaults: &[&str],
 ) -> Result<Seq<Text>, NoMemory>
-    ensures faults { OnOk result (found.new ≡ after found.old (where_given texts (option_copied value.entry))) }
+    ensures faults { OnOk result (found.new ≡ after found.old (where_given any_texts (option_copied value.entry))) }
     ensures value { IfOk result (λ all. all ≡ texts_value (map (λ word. word.now) defaults.now) (option_copied value.entry)) }
 {
     let Some(tree) = value else {

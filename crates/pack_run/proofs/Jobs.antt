@@ -1,42 +1,30 @@
 -- From a configuration's bytes to the verdict of the words.
-use Rattle.std.proofs.Common.{◌≡◌, ℕ, Bool, true, false, cond, List, [], ◌∷◌, Some, None, Ok, Err, length, refl, ap, subst, arith}
+use Rattle.std.proofs.Common.{◌≡◌, ℕ, ◌<◌, Bool, true, false, cond, List, Some, None, Err, length, inl, refl, ap, arith}
 use Rattle.std.proofs.lemmas.Bool.Decides.{nat_tests}
-use Rattle.std.specs.Prelude.{IfOk, Option, Result, is_some, nat_le, nat_lt}
+use Rattle.std.specs.Prelude.{Option, is_some, nat_le}
 use Rattle.fault_place.specs.declared.limit.TheConstants.{MAX_TEXT}
 use Rattle.outside.specs.Reads.{read_of}
 use Rattle.outside.specs.Tree.{Tree, bytes_at}
 use Rattle.outside.specs.declared.entry.ReadGot.TheVariants.{Whole, TooLong as Above}
-use Rattle.pack_run.specs.Config.{config_of}
-use Rattle.pack_run.specs.Verdict.{IsConfigVerdict, IsMissing, IsVerdict, outcome_of, unless_faults}
-use Rattle.fault_place.specs.declared.fault.Fault.{Fault}
-use Rattle.graph_types.specs.Modules.{Graph}
-use Rattle.outside.specs.declared.outside_end.OutsideEnd.{OutsideEnd}
-use Rattle.pack_run.specs.Report.{IsOfBuild}
+use Rattle.pack_config.specs.Answer.{IsConfigAnswer, size_limit}
+use Rattle.pack_config.specs.Faults.{config_fault}
+use Rattle.pack_config.specs.declared.fault.ConfigKind.TheVariants.{TooLong}
+use Rattle.pack_run.specs.Verdict.{IsMissing, IsReadVerdict, IsVerdict}
 use Rattle.pack_run.specs.Words.{config_path}
-use Rattle.pack_run.specs.declared.verdict.Verdict.TheVariants.{Usage}
-use Rattle.pack_run.specs.declared.config.ConfigKind.TheVariants.{TooLong}
 use Rattle.pack_run.specs.declared.verdict.Verdict.{Verdict}
-
-whole_by : (b : Bool) (bytes text : List ℕ) → Whole text ≡ cond b (Whole bytes) Above → bytes ≡ text
-whole_by true bytes text is = cc
-whole_by false bytes text is = cc
-
--- a whole file's bytes are those that were read
-pub whole_is : (bytes text : List ℕ) → Whole text ≡ read_of MAX_TEXT bytes → bytes ≡ text
-whole_is bytes text is = whole_by (nat_le (length bytes) MAX_TEXT) bytes text is
 
 long_by : (b : Bool) (bytes : List ℕ) → Above ≡ cond b (Whole bytes) Above → b ≡ false
 long_by true bytes is = cc
 long_by false bytes is = refl
 
-above : (size : ℕ) → nat_le size MAX_TEXT ≡ false → nat_lt MAX_TEXT size ≡ true
+above : (size : ℕ) → nat_le size MAX_TEXT ≡ false → size_limit < size
 above size long = grind (arith, nat_tests)
 
 -- a text that was too long to be read means nothing
-pub long_is : (bytes : List ℕ) → Above ≡ read_of MAX_TEXT bytes → config_of bytes ≡ Err TooLong
-long_is bytes is = rw (above (length bytes) (long_by (nat_le (length bytes) MAX_TEXT) bytes is))
+pub long_is : (bytes : List ℕ) → Above ≡ read_of MAX_TEXT bytes → IsConfigAnswer bytes (Err (config_fault TooLong 0))
+long_is bytes is = inl (above (length bytes) (long_by (nat_le (length bytes) MAX_TEXT) bytes is), refl)
 
-pub of_config : (words : List (List ℕ)) (tree : Tree) (config text : List ℕ) → config_path words ≡ Some config → bytes_at tree config ≡ Some text → (verdict : Verdict) (paths : List (List ℕ)) → IsConfigVerdict tree config text (config_of text) verdict paths → IsVerdict words tree verdict paths
+pub of_config : (words : List (List ℕ)) (tree : Tree) (config text : List ℕ) → config_path words ≡ Some config → bytes_at tree config ≡ Some text → (verdict : Verdict) (paths : List (List ℕ)) → IsReadVerdict tree config text verdict paths → IsVerdict words tree verdict paths
 of_config words tree config text named at verdict paths is = rw (named, at) is
 
 named_by : (words : List (List ℕ)) (tree : Tree) (config : List ℕ) → config_path words ≡ Some config → bytes_at tree config ≡ None → IsMissing words tree
@@ -52,14 +40,3 @@ is_there words tree config names there = there_by words tree config (bytes_at tr
 
 pub is_some_at : (tree : Tree) (path bytes : List ℕ) → bytes_at tree path ≡ Some bytes → is_some (bytes_at tree path) ≡ true
 is_some_at tree path bytes at = ap is_some at
-
-pub not_usage : (result : Result Verdict OutsideEnd) → IfOk result IsOfBuild → result ≡ Ok Usage → ⊥
-not_usage (Ok verdict) build is = (let usage : verdict ≡ Usage = cc in subst IsOfBuild usage build)
-not_usage (Err end) build is = cc
-
-pub outcome_build : (graph : Graph) → IsOfBuild (outcome_of graph)
-outcome_build graph = by graph.faults
-  where
-    by : (faults : List Fault) → IsOfBuild (unless_faults faults graph)
-    by [] = tt
-    by (fault ∷ faults) = tt

@@ -1,55 +1,98 @@
--- What making the graph leaves for the decision on an entry.
-use Rattle.std.proofs.Common.{◌≡◌, ℕ, List, [], ◌∷◌, map, refl, subst}
-use Rattle.std.specs.Prelude.{Ok, Err}
-use Rattle.fault_place.specs.declared.fault.Fault.{Fault}
-use Rattle.graph_types.specs.Graphs.{IsGraphOf}
+-- What making the graph leaves for the decision on the modules.
+use Rattle.std.proofs.Common.{◌≡◌, ℕ, List, map, inl, inr, refl, sym, subst}
+use Rattle.std.proofs.lemmas.List.Sorted.{IsPermutation-refl}
+use Rattle.std.specs.Prelude.{Ok, Err, IsPermutation}
+use Rattle.fault_place.specs.declared.limit.Limit.{Limit}
 use Rattle.graph_types.specs.Modules.{Graph}
+use Rattle.graph_types.specs.declared.config.Config.{Config}
 use Rattle.graph_types.specs.declared.record.ModRecord.{ModRecord}
 use Rattle.make_rounds.specs.Graph.{Makes}
-use Rattle.make_rounds.specs.Record.{record_of}
+use Rattle.make_rounds.specs.declared.make_end.MakeEnd.TheVariants as ends
+use Rattle.module_build.specs.Readings.{AreReadings, Readings}
+use Rattle.module_build.specs.Reads.{file_path}
 use Rattle.outside.specs.Tree.{Tree}
 use Rattle.outside.specs.Views.{ReaderView}
 use Rattle.outside.specs.declared.outside_end.OutsideEnd.{OutsideEnd}
 use Rattle.outside.specs.declared.outside_end.OutsideEnd.TheVariants.{Failed, NoMemory}
-use Rattle.tree_listing.specs.Listing.{lengths_of}
-use Rattle.pack_run.specs.Config.{Configured}
 use Rattle.pack_run.specs.inner.Decision.{DecidesOn}
-use Rattle.pack_run.specs.Verdict.{IsOutcome, entry_faults, entry_file, entry_files, outcome_of}
+use Rattle.pack_run.specs.Verdict.{IsGraphVerdict, IsMade}
 use Rattle.pack_run.specs.declared.verdict.Verdict.{Verdict}
+use Rattle.pack_run.specs.declared.verdict.Verdict.TheVariants.{Limit as Over}
 
-module _ (tree : Tree) (entries : List (List ℕ)) (faults : List Fault) (before now : ReaderView) where
-  -- making failed
-  pub unmade : (end other : OutsideEnd) → Makes tree entries faults before now (Err end) → (Is : Verdict → List (List ℕ) → Type 0) → DecidesOn Is tree before now (Err other)
-  unmade end Failed makes Is =
-      let reads = makes.reads in
+module _ (tree : Tree) (config : Config) (path : List ℕ) (before now : ReaderView) (readings : Readings) (right : AreReadings readings) where
+  -- a read failed
+  pub unread : Makes tree config path before now (Err ends.ReadFault) → DecidesOn (IsMade tree config path) tree before now (Err Failed)
+  unread makes =
+      let reads = makes.reads readings right in
       let reached = reads.2 in
-      record { no_stray = makes.no_stray; reads = (reads.0, reads.1, (reached.are.only, (reached.files, reached.distinct, reached.are.are))) }
-  unmade end NoMemory makes Is = record { no_stray = makes.no_stray; reads = (makes.reads.0, makes.reads.1, (makes.reads.2.are.only, tt)) }
+      record { no_stray = makes.no_stray; reads = (reads.0, reads.1, (reached.are.no_config, (reached.files, reached.distinct, reached.are.are))) }
+
+  -- memory ran out while the graph was made
+  pub unmade : Makes tree config path before now (Err ends.NoMemory) → DecidesOn (IsMade tree config path) tree before now (Err NoMemory)
+  unmade makes = (let reads = makes.reads readings right in record { no_stray = makes.no_stray; reads = (reads.0, reads.1, (reads.2.are.no_config, tt)) })
 
   -- the graph was made, and for what it comes to there was no memory
-  pub undecided : (graph : Graph) → Makes tree entries faults before now (Ok graph) → (Is : Verdict → List (List ℕ) → Type 0) (end : OutsideEnd) → end ≡ NoMemory → DecidesOn Is tree before now (Err end)
-  undecided graph makes Is end is = rw is (record { no_stray = makes.no_stray; reads = (makes.reads.0, makes.reads.1, (makes.reads.2.2.only, tt)) })
+  pub undecided : (graph : Graph) → Makes tree config path before now (Ok graph) → (end : OutsideEnd) → end ≡ NoMemory → DecidesOn (IsMade tree config path) tree before now (Err end)
+  undecided graph makes end is =
+      let reads = makes.reads readings right in
+      rw is (record { no_stray = makes.no_stray; reads = (reads.0, reads.1, (reads.2.2.no_config, tt)) })
 
-  pub decided : (config : Configured) (graph : Graph) (verdict : Verdict) → Makes tree entries faults before now (Ok graph) → entries ≡ entry_files tree config ∷ [] → faults ≡ entry_faults config (entry_file (lengths_of tree) config.request) → verdict ≡ outcome_of graph → DecidesOn (IsOutcome tree config) tree before now (Ok verdict)
-  decided config graph verdict makes entries_are faults_are is =
-      let reads = makes.reads in
-      let of : IsGraphOf (record_of tree) (entry_files tree config ∷ []) faults graph = subst (λ entries. IsGraphOf (record_of tree) entries faults graph) entries_are makes.graph_is in
+  -- a limit is exceeded
+  pub exceeded : (limit : Limit) → Makes tree config path before now (Err (ends.Limit limit)) → DecidesOn (IsMade tree config path) tree before now (Ok (Over limit))
+  exceeded limit makes =
+      let reads = makes.reads readings right in
+      let reached = reads.2 in
+      let paths = map (file_path tree) reached.files in
       record {
         no_stray = makes.no_stray;
         reads = (
           reads.0,
           reads.1,
           (
-            reads.2.2.only,
+            reached.are.no_config,
             (
-              map (λ (rec : ModRecord). rec.path) graph.records,
+              paths,
               record {
-                graph = graph;
-                graph_is = subst (λ faults. IsGraphOf (record_of tree) (entry_files tree config ∷ []) faults graph) faults_are of;
-                verdict_is = is;
-                paths_are = refl;
+                readings = readings;
+                right = right;
+                comes = inl (record {
+                  limit = limit;
+                  exceeded = makes.answer readings right;
+                  verdict_is = refl;
+                  files = reached.files;
+                  distinct = reached.distinct;
+                  reached = reached.reached;
+                  paths_are = refl;
+                });
               },
-              rw reads.2.2.are reads.2.1,
+              subst (IsPermutation paths) (sym reached.are.are) (IsPermutation-refl paths),
+            ),
+          ),
+        );
+      }
+
+  -- what the graph comes to
+  pub decided : (graph : Graph) (verdict : Verdict) → Makes tree config path before now (Ok graph) → IsGraphVerdict graph config path graph.faults verdict → DecidesOn (IsMade tree config path) tree before now (Ok verdict)
+  decided graph verdict makes is =
+      let answer = makes.answer readings right in
+      let reads = makes.reads readings right in
+      let once = reads.2 in
+      let paths = map (λ (rec : ModRecord). rec.path) graph.records in
+      record {
+        no_stray = makes.no_stray;
+        reads = (
+          reads.0,
+          reads.1,
+          (
+            once.2.no_config,
+            (
+              paths,
+              record {
+                readings = readings;
+                right = right;
+                comes = inr (answer.1, record { graph = graph; graph_is = answer.0; verdict_is = is; paths_are = refl });
+              },
+              subst (IsPermutation paths) (sym once.2.are) once.1,
             ),
           ),
         );

@@ -1,8 +1,8 @@
 -- What a command reads (this project).
 use Rattle.std.specs.Prelude.{◌≡◌, ◌⊎◌, ℕ, List, [], ◌∷◌, ◌++◌, map, nat_eq, option_to_list, IsPermutation}
 use Rattle.std.specs.List.{IsDistinct}
-use Rattle.make_rounds.specs.Reads.{file_path}
-use Rattle.outside.specs.Logs.{is_config, is_manifest, module_paths, paths_for}
+use Rattle.module_build.specs.Reads.{file_path}
+use Rattle.outside.specs.Logs.{is_config, module_paths, paths_for}
 use Rattle.outside.specs.Tree.{Tree}
 use Rattle.outside.specs.Views.{ReaderView}
 use Rattle.outside.specs.declared.entry.Why.{Why}
@@ -12,16 +12,14 @@ use Rattle.pack_run.specs.Words.{config_path}
 abbrev pub named : List (List ℕ) → List (List ℕ)
 named words = option_to_list (config_path words)
 
--- The configuration is read once, these files once each as modules, and nothing else.
+-- The configuration is read once, these files once each as modules, and besides nothing but manifests.
 pub record ReadsBuild (words paths : List (List ℕ)) (reads : List (List ℕ × Why)) : Type 0 where
   pub config : paths_for is_config reads ≡ named words
   pub modules : IsPermutation paths (module_paths reads)
-  pub others : paths_for is_manifest reads ≡ []
 
--- The configuration is read once or not at all, and nothing else but modules.
+-- The configuration is read once or not at all, and besides nothing but modules and manifests.
 pub record ReadsInPart (words : List (List ℕ)) (reads : List (List ℕ × Why)) : Type 0 where
   pub config : (paths_for is_config reads ≡ []) ⊎ (paths_for is_config reads ≡ named words)
-  pub others : paths_for is_manifest reads ≡ []
 
 -- no file of the tree is read twice as a module
 abbrev pub NoneTwice : Tree → List (List ℕ × Why) → Type 0

@@ -1,106 +1,117 @@
--- What a build of a tree comes to (this project): the first that applies of usage, a bad configuration, an exceeded limit,
--- faults, and the assets. A build whose configuration isn't in the tree comes to nothing: the read of it fails.
-use Rattle.std.specs.Prelude.{◌≡◌, ℕ, ◌⊎◌, List, [], ◌∷◌, ◌++◌, map, length, slice_index_or, codes, decimal, Option, Some, None, option_and_then, option_to_list, Result, Ok, Err}
-use Rattle.std.specs.Result.{result_ok}
-use Rattle.chunk_code.specs.Texts.{entry_text}
+-- What a build of a tree comes to (this project): the first that applies of usage, a bad configuration, an exceeded limit of
+-- the tree, one of its modules, faults, and what the module graph is sealed to. A build whose configuration isn't in the tree
+-- comes to nothing: the read of it fails.
+use Rattle.std.specs.Prelude.{◌≡◌, ℕ, ◌⊎◌, List, [], ◌∷◌, ◌++◌, map, length, nat_eq, codes, decimal, Option, Some, None, Result, Ok, Err}
+use Rattle.std.specs.List.{IsDistinct}
 use Rattle.fault_place.specs.declared.fault.Fault.{Fault}
-use Rattle.fault_place.specs.declared.fault.FaultKind.TheVariants.{Unresolved}
 use Rattle.fault_place.specs.declared.limit.Limit.{Limit}
 use Rattle.fault_place.specs.declared.place.Place.{Place}
 use Rattle.fault_place.specs.Fault.{line_of, in_order}
 use Rattle.fault_place.specs.Limit.{name_of, number_of}
 use Rattle.fault_place.specs.Place.{place_in}
-use Rattle.graph_types.specs.Graphs.{IsGraphOf}
 use Rattle.graph_types.specs.Modules.{Graph}
-use Rattle.graph_types.specs.declared.record.ModRecord.{ModRecord}
-use Rattle.make_rounds.specs.Record.{record_of}
-use Rattle.module_code.specs.ModuleText.{record_text}
-use Rattle.path_text.specs.Path.{join_of}
+use Rattle.graph_types.specs.declared.config.Config.{Config as BuildConfig}
+use Rattle.make_rounds.specs.Counts.{AreReached}
+use Rattle.make_rounds.specs.Graph.{Exceeded, IsGraphBy, first_files}
+use Rattle.module_build.specs.Readings.{AreReadings, Readings}
+use Rattle.module_build.specs.Reads.{file_path}
+use Rattle.module_build.specs.Record.{record_of}
 use Rattle.outside.specs.Tree.{Tree, bytes_at}
 use Rattle.outside.specs.Sinks.{asset}
 use Rattle.outside.specs.declared.asset_sink.Asset.{Asset}
-use Rattle.stats_text.specs.Stats.{stats_text_of}
+use Rattle.pack_config.specs.Answer.{IsConfigAnswer}
+use Rattle.pack_config.specs.declared.fault.ConfigFault.{ConfigFault}
+use Rattle.pack_config.specs.declared.fault.ConfigKind.{ConfigKind}
+use Rattle.pack_config.specs.declared.fault.ConfigKind.TheVariants as kinds
+use Rattle.seal_build.specs.Seal.{SealsTo}
+use Rattle.seal_build.specs.Served.{IsServed}
+use Rattle.seal_build.specs.declared.seal_end.SealEnd.{SealEnd}
+use Rattle.seal_build.specs.declared.seal_end.SealEnd.TheVariants as seal_ends
+use Rattle.seal_build.specs.declared.sealed.Sealed.{Sealed}
 use Rattle.tree_listing.specs.Limits.{Exceeds}
-use Rattle.tree_listing.specs.Listing.{lengths_of, number_at}
-use Rattle.pack_run.specs.Config.{Configured, config_of, entry_offset}
 use Rattle.pack_run.specs.Words.{config_path}
-use Rattle.pack_run.specs.declared.config.ConfigKind.{ConfigKind}
-use Rattle.pack_run.specs.declared.config.ConfigKind.TheVariants.{TooLong as ConfigTooLong, NotYet as ConfigNotYet}
 use Rattle.pack_run.specs.declared.end.End.{End}
 use Rattle.pack_run.specs.declared.end.End.TheVariants as ends
 use Rattle.pack_run.specs.declared.verdict.Build.{Build}
 use Rattle.pack_run.specs.declared.verdict.Verdict.{Verdict}
 use Rattle.pack_run.specs.declared.verdict.Verdict.TheVariants.{Usage, Config, Limit as Over, Faults, Built}
 
--- the first place of a file
-abbrev pub start_of : List ℕ → Place
-start_of path = place_in path [] 0
-
--- the texts of the modules, by their numbers
-abbrev pub module_texts : List ModRecord → List (List ℕ)
-module_texts records = map (record_text records) records
-
--- the assets of a build of one entry, whose chunk has all modules
-abbrev pub build_of : Graph → Build
-build_of graph = record {
-  modules = length graph.records;
-  chunks = 1;
-  assets =
-      asset (codes "main.js") (entry_text 0 (module_texts graph.records) (slice_index_or graph.roots 0 []))
-      ∷ asset (codes "stats.json") (stats_text_of graph) ∷ [];
+-- the assets of what was sealed, and behind them the stats
+abbrev pub build_of : ℕ → Sealed → Build
+build_of modules sealed = record {
+  modules = modules;
+  chunks = sealed.chunks;
+  assets = sealed.assets ++ asset (codes "stats.json") sealed.stats ∷ [];
 }
 
--- the assets, where there are no faults
-abbrev pub unless_faults : List Fault → Graph → Verdict
-unless_faults [] graph = Built (build_of graph)
-unless_faults (fault ∷ faults) graph = Faults (in_order (fault ∷ faults))
+-- The verdict of what a graph is sealed to. What is written serves: along each load history, each module that a loaded group
+-- reaches lies in a loaded chunk, and each split is an admissible candidate in the chunks before it.
+abbrev pub IsSealVerdict : Graph → BuildConfig → List ℕ → Result Sealed SealEnd → Verdict → Type 0
+IsSealVerdict graph config path (Ok sealed) verdict = (verdict ≡ Built (build_of (length graph.records) sealed)) × IsServed graph config path sealed
+IsSealVerdict graph config path (Err (seal_ends.Faults faults)) verdict = verdict ≡ Faults faults
+IsSealVerdict graph config path (Err (seal_ends.Limit limit)) verdict = verdict ≡ Over limit
+IsSealVerdict graph config path (Err seal_ends.NoMemory) verdict = ⊥
 
-abbrev pub outcome_of : Graph → Verdict
-outcome_of graph = unless_faults graph.faults graph
+-- the faults of a graph in their order, or what it is sealed to where there are none
+abbrev pub IsGraphVerdict : Graph → BuildConfig → List ℕ → List Fault → Verdict → Type 0
+IsGraphVerdict graph config path [] verdict = (sealed : Result Sealed SealEnd) × SealsTo graph config path sealed × IsSealVerdict graph config path sealed verdict
+IsGraphVerdict graph config path (fault ∷ faults) verdict = verdict ≡ Faults (in_order (fault ∷ faults))
 
--- the file that the entry's request names from the root
-abbrev pub entry_file : List (List ℕ × ℕ) → List ℕ → Option ℕ
-entry_file files request = option_and_then (number_at files) (result_ok (join_of [] request))
-
--- the fault of an entry whose request names no file
-abbrev pub unresolved : Configured → Fault
-unresolved config = record { place = place_in config.path config.text entry_offset; kind = Unresolved; detail = config.request }
-
-abbrev pub entry_faults : Configured → Option ℕ → List Fault
-entry_faults config None = unresolved config ∷ []
-entry_faults config (Some file) = []
-
--- the files of the entry: one, or none where its request names none
-abbrev pub entry_files : Tree → Configured → List ℕ
-entry_files tree config = option_to_list (entry_file (lengths_of tree) config.request)
-
--- The graph of the entry gives the faults in their order or the assets. The modules have these paths.
-pub record IsOutcome (tree : Tree) (config : Configured) (verdict : Verdict) (paths : List (List ℕ)) : Type 0 where
+-- the verdict of the graph of a configuration at a path, whose modules have these paths
+pub record IsOutcome (readings : Readings) (tree : Tree) (config : BuildConfig) (path : List ℕ) (verdict : Verdict) (paths : List (List ℕ)) : Type 0 where
   pub graph : Graph
-  pub graph_is : IsGraphOf (record_of tree) (entry_files tree config ∷ []) (entry_faults config (entry_file (lengths_of tree) config.request)) graph
-  pub verdict_is : verdict ≡ outcome_of graph
+  pub graph_is : IsGraphBy readings tree config path graph
+  pub verdict_is : IsGraphVerdict graph config path graph.faults verdict
   pub paths_are : paths ≡ map (λ rec. rec.path) graph.records
+
+-- an exceeded limit of the make phase; the paths are those of different reached files
+pub record IsOver (readings : Readings) (tree : Tree) (config : BuildConfig) (verdict : Verdict) (paths : List (List ℕ)) : Type 0 where
+  pub limit : Limit
+  pub exceeded : Exceeded readings tree config limit
+  pub verdict_is : verdict ≡ Over limit
+  pub files : List ℕ
+  pub distinct : IsDistinct nat_eq files
+  pub reached : AreReached (record_of readings tree config) (first_files readings tree config) files
+  pub paths_are : paths ≡ map (file_path tree) files
+
+-- an exceeded limit, or what the graph comes to where none is
+abbrev pub IsMadeBy : Readings → Tree → BuildConfig → List ℕ → Verdict → List (List ℕ) → Type 0
+IsMadeBy readings tree config path verdict paths =
+    IsOver readings tree config verdict paths
+    ⊎ (((limit : Limit) → ¬ Exceeded readings tree config limit) × IsOutcome readings tree config path verdict paths)
+
+-- the same by a right reading of texts
+pub record IsMade (tree : Tree) (config : BuildConfig) (path : List ℕ) (verdict : Verdict) (paths : List (List ℕ)) : Type 0 where
+  pub readings : Readings
+  pub right : AreReadings readings
+  pub comes : IsMadeBy readings tree config path verdict paths
 
 -- a verdict for which no module is read
 pub record IsEarly (expected verdict : Verdict) (paths : List (List ℕ)) : Type 0 where
   pub verdict_is : verdict ≡ expected
   pub paths_are : paths ≡ []
 
--- the configuration's meaning, and then the limits
-abbrev pub IsConfigVerdict : Tree → List ℕ → List ℕ → Result (List ℕ) ConfigKind → Verdict → List (List ℕ) → Type 0
-IsConfigVerdict tree config text (Err kind) verdict paths = IsEarly (Config (start_of config) kind) verdict paths
-IsConfigVerdict tree config text (Ok request) verdict paths =
+-- the configuration's fault, or the limits of the tree, and then the modules
+abbrev pub IsConfigVerdict : Tree → List ℕ → List ℕ → Result BuildConfig ConfigFault → Verdict → List (List ℕ) → Type 0
+IsConfigVerdict tree path text (Err fault) verdict paths = IsEarly (Config (place_in path text fault.offset) fault.kind) verdict paths
+IsConfigVerdict tree path text (Ok config) verdict paths =
     ((limit : Limit) × Exceeds tree limit × IsEarly (Over limit) verdict paths)
-    ⊎ (((limit : Limit) → ¬ Exceeds tree limit) × IsOutcome tree (record { path = config; text = text; request = request }) verdict paths)
+    ⊎ (((limit : Limit) → ¬ Exceeds tree limit) × IsMade tree config path verdict paths)
+
+-- what a configuration's text comes to
+pub record IsReadVerdict (tree : Tree) (path text : List ℕ) (verdict : Verdict) (paths : List (List ℕ)) : Type 0 where
+  pub answer : Result BuildConfig ConfigFault
+  pub answer_is : IsConfigAnswer text answer
+  pub verdict_is : IsConfigVerdict tree path text answer verdict paths
 
 -- the configuration's bytes, where it is in the tree
 abbrev pub IsTextVerdict : Tree → List ℕ → Option (List ℕ) → Verdict → List (List ℕ) → Type 0
-IsTextVerdict tree config None verdict paths = ⊥
-IsTextVerdict tree config (Some text) verdict paths = IsConfigVerdict tree config text (config_of text) verdict paths
+IsTextVerdict tree path None verdict paths = ⊥
+IsTextVerdict tree path (Some text) verdict paths = IsReadVerdict tree path text verdict paths
 
 abbrev pub IsJobVerdict : Tree → Option (List ℕ) → Verdict → List (List ℕ) → Type 0
 IsJobVerdict tree None verdict paths = IsEarly Usage verdict paths
-IsJobVerdict tree (Some config) verdict paths = IsTextVerdict tree config (bytes_at tree config) verdict paths
+IsJobVerdict tree (Some path) verdict paths = IsTextVerdict tree path (bytes_at tree path) verdict paths
 
 -- the verdict of words on a tree, and the paths of the modules that it is made of
 abbrev pub IsVerdict : List (List ℕ) → Tree → Verdict → List (List ℕ) → Type 0
@@ -112,8 +123,12 @@ IsMissing words tree = (config : List ℕ) × (config_path words ≡ Some config
 
 -- what a fault of the configuration is called
 abbrev pub config_kind_name : ConfigKind → List ℕ
-config_kind_name ConfigTooLong = codes "TooLong"
-config_kind_name ConfigNotYet = codes "NotYet"
+config_kind_name kinds.TooLong = codes "TooLong"
+config_kind_name kinds.Json = codes "Json"
+config_kind_name kinds.UnknownKey = codes "UnknownKey"
+config_kind_name kinds.WrongType = codes "WrongType"
+config_kind_name kinds.OutOfRange = codes "OutOfRange"
+config_kind_name kinds.Repeated = codes "Repeated"
 
 -- PATH:LINE:COLUMN: config KIND
 abbrev pub config_line : Place → ConfigKind → List ℕ

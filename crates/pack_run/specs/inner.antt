@@ -1,3 +1,2 @@
 pub mod Decision
-pub mod Entry
 pub mod Stop

@@ -1,41 +1,47 @@
 ghost use Rattle.std.specs.Prelude.{◌≡◌, ◌≤◌, length, map, string_bytes, IfOk, IsErrOf, MatchResult};
+ghost use Rattle.fault_place.specs.Place.{place_in};
 ghost use Rattle.outside.specs.Cause.{Rose};
 ghost use Rattle.outside.specs.Tree.{Tree, Told};
 ghost use Rattle.tree_listing.specs.Listing.{IsListingOf};
-ghost use Rattle.pack_run.specs.Config.{config_of};
 ghost use Rattle.pack_run.specs.inner.Decision.{Decides, DecidesOn, DecidesUsage};
 ghost use Rattle.pack_run.specs.Report.{CanReport, IsOfBuild};
 ghost use Rattle.pack_run.specs.inner.Stop.{unlisted};
-ghost use Rattle.pack_run.specs.Verdict.{start_of, IsConfigVerdict, IsOutcome};
+ghost use Rattle.pack_run.specs.Verdict.{IsMade, IsReadVerdict};
 
-use crate::config::Configuration;
-use crate::entry::{Entry, find_entry};
+use crate::Verdict;
 use crate::outcome::outcome;
 use crate::words::config_path;
-use crate::{ConfigKind, Verdict};
 use fault_place::{MAX_TEXT, NoMemory, place_at};
-use make_rounds::make_one_at_a_time;
+use graph_types::Config;
+use make_rounds::{MakeEnd, make_one_at_a_time};
+use module_build::laws::one_record;
 use outside::{OutsideEnd, ReadGot, TreeReader, Why};
+use pack_config::{ConfigEnd, ConfigFault, ConfigKind, read_config};
 use std::alloc::Global;
 use tree_listing::{ListEnd, Listing, list};
 
-/// The verdict on the entry, once the configuration and the listing are there.
-fn decide_entry<R: TreeReader>(
+/// The verdict on the modules, once the configuration and the listing are there.
+fn decide_made<R: TreeReader>(
     alloc: Global,
     reader: &mut R,
     listing: &Listing,
-    config: &Configuration<'_>,
+    config: &Config,
+    path: &str,
 ) -> Result<Verdict, OutsideEnd>
     ensures follows { R.follows reader.old reader.new }
     ensures cause { IsErrOf result OutsideEnd.Failed → Rose (R.view reader.old).faults (R.view reader.new).faults }
     ensures reportable { IfOk result CanReport }
     ensures build { IfOk result IsOfBuild }
     ensures told { Told (R.view reader.old).tree (λ tree. IsListingOf tree listing.now
-        → DecidesOn (IsOutcome tree config.now) tree (R.view reader.old) (R.view reader.new) result) }
+        → DecidesOn (IsMade tree config.now path.now) tree (R.view reader.old) (R.view reader.new) result) }
 {
-    let Entry { entries, faults } = find_entry(alloc, listing, config)?;
-    let graph = make_one_at_a_time(alloc, reader, listing, &entries, faults)?;
-    Ok(outcome(alloc, &graph)?)
+    one_record();
+    match make_one_at_a_time(alloc, reader, listing, config, path) {
+        Ok(graph) => Ok(outcome(alloc, &graph, config, path)?),
+        Err(MakeEnd::Limit(limit)) => Ok(Verdict::Limit(limit)),
+        Err(MakeEnd::ReadFault) => Err(OutsideEnd::Failed),
+        Err(MakeEnd::NoMemory) => Err(OutsideEnd::NoMemory),
+    }
 }
 
 /// The verdict once the configuration's text is read.
@@ -49,14 +55,16 @@ fn decide_config<R: TreeReader>(
     ensures cause { IsErrOf result OutsideEnd.Failed → Rose (R.view reader.old).faults (R.view reader.new).faults }
     ensures reportable { IfOk result CanReport }
     ensures build { IfOk result IsOfBuild }
-    ensures told { Told (R.view reader.old).tree (λ tree. length text.now ≤ MAX_TEXT
-        → DecidesOn (IsConfigVerdict tree path.now text.now (config_of text.now)) tree (R.view reader.old) (R.view reader.new) result) }
+    ensures told { Told (R.view reader.old).tree (λ tree.
+        DecidesOn (IsReadVerdict tree path.now text.now) tree (R.view reader.old) (R.view reader.new) result) }
 {
-    let Some(config) = Configuration::new(path, text) else {
-        return Ok(bad_config(alloc, path, ConfigKind::NotYet)?);
+    let config = match read_config(alloc, text) {
+        Ok(config) => config,
+        Err(ConfigEnd::Fault(fault)) => return Ok(bad_config(alloc, path, text, fault)?),
+        Err(ConfigEnd::NoMemory) => return Err(OutsideEnd::NoMemory),
     };
     match list(alloc, reader) {
-        Ok(listing) => decide_entry(alloc, reader, &listing, &config),
+        Ok(listing) => decide_made(alloc, reader, &listing, &config, path),
         Err(end) => unlisted(end),
     }
 }
@@ -75,11 +83,22 @@ fn unlisted(end: ListEnd) -> Result<Verdict, OutsideEnd>
     }
 }
 
-fn bad_config(alloc: Global, path: &str, kind: ConfigKind) -> Result<Verdict, NoMemory>
-    ensures { IfOk result (λ verdict. verdict ≡ Verdict.Config (start_of path.now) kind) }
+/// The verdict of a fault of the configuration. The line of an offset behind the text would be its last.
+fn bad_config(
+    alloc: Global,
+    path: &str,
+    text: &[u8],
+    fault: ConfigFault,
+) -> Result<Verdict, NoMemory>
+    ensures { IfOk result (λ verdict. verdict ≡ Verdict.Config (place_in path.now text.now fault.offset) fault.kind) }
 {
-    let place = place_at(alloc, path, b"", 0)?;
-    Ok(Verdict::Config { place, kind })
+    let end = text.len() as u64;
+    let mut place = place_at(alloc, path, text, fault.offset.min(end))?;
+    place.offset = fault.offset;
+    Ok(Verdict::Config {
+        place,
+        kind: fault.kind,
+    })
 }
 
 /// The verdict of words on the tree that is read.
@@ -99,6 +118,12 @@ pub fn decide<R: TreeReader>(
     };
     match reader.read(alloc, config.get(), Why::Config, MAX_TEXT)? {
         ReadGot::Whole(text) => decide_config(alloc, reader, config.get(), text.get()),
-        ReadGot::TooLong => Ok(bad_config(alloc, config.get(), ConfigKind::TooLong)?),
+        ReadGot::TooLong => {
+            let fault = ConfigFault {
+                offset: 0,
+                kind: ConfigKind::TooLong,
+            };
+            Ok(bad_config(alloc, config.get(), b"", fault)?)
+        }
     }
 }

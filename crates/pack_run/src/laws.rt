@@ -1,18 +1,25 @@
 //! What holds of the definitions: calls that do nothing and whose clauses are the laws.
-ghost use Rattle.std.specs.Prelude.{◌≡◌, ℕ, List};
-ghost use Rattle.fault_place.specs.declared.limit.Limit.{Limit};
+ghost use Rattle.std.specs.Prelude.{◌≡◌, ◌⊎◌, ℕ, List};
 ghost use Rattle.outside.specs.Tree.{Tree};
-ghost use Rattle.tree_listing.specs.Limits.{Exceeds};
+ghost use Rattle.pack_run.specs.WithinLimits.{ExceedsNone, IsLimit};
 ghost use Rattle.pack_run.specs.Verdict.{IsVerdict};
 ghost use Rattle.pack_run.specs.declared.verdict.Verdict.{Verdict};
 
 use graph_types::laws::one_graph;
+use module_build::laws::one_record;
+use pack_config::laws::one_configuration_or_one_fault;
+use seal_build::laws::one_outcome;
 
-/// Words have one verdict on a tree that exceeds no limit.
+/// Words have one verdict on a tree, but where each verdict names a limit: the tree, or the files that its modules are made
+/// of, may exceed several. Where they exceed none, the words have one.
 pub fn one_verdict()
-    ensures { (words : List (List ℕ)) (tree : Tree) (one other : Verdict) (paths others : List (List ℕ))
-        → ((limit : Limit) → ¬ Exceeds tree limit)
-        → IsVerdict words tree one paths → IsVerdict words tree other others → one ≡ other }
+    ensures within { (words : List (List ℕ)) (tree : Tree) (one other : Verdict) (paths others : List (List ℕ))
+        → ExceedsNone words tree → IsVerdict words tree one paths → IsVerdict words tree other others → one ≡ other }
+    ensures or_limits { (words : List (List ℕ)) (tree : Tree) (one other : Verdict) (paths others : List (List ℕ))
+        → IsVerdict words tree one paths → IsVerdict words tree other others → (one ≡ other) ⊎ (IsLimit one × IsLimit other) }
 {
+    one_configuration_or_one_fault();
+    one_record();
     one_graph();
+    one_outcome();
 }

@@ -1,10 +1,8 @@
 //! The top call: words, configuration, tree, modules and assets of a build.
 #![tactic(auto)]
 
-mod config;
 mod decide;
 mod end;
-mod entry;
 pub mod laws;
 mod outcome;
 mod output;
@@ -14,7 +12,6 @@ mod verdict;
 mod verdict_lines;
 mod words;
 
-pub use config::ConfigKind;
 pub use end::End;
 pub use top::run;
 pub use verdict::{Build, Verdict};

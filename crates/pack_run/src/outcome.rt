@@ -1,20 +1,17 @@
-//! What a module graph comes to: its faults in their order, or the assets.
-ghost use Rattle.std.specs.Prelude.{◌≡◌, ◌<◌, ◌≤◌, ◌^◌, ◌∷◌, [], codes, length, IfOk};
-ghost use Rattle.std.specs.List.{AllByRecursion};
+//! What a module graph comes to: its faults in their order, or what it is sealed to.
+ghost use Rattle.std.specs.Prelude.{◌≡◌, ◌<◌, ◌^◌, ◌++◌, ◌∷◌, [], codes, length, IfOk};
 ghost use Rattle.fault_place.specs.Fault.{in_order};
-ghost use Rattle.graph_types.specs.Fits.{HoldsWholeRecords};
-ghost use Rattle.graph_types.specs.Whole.{IsWhole};
+ghost use Rattle.graph_types.specs.Fits.{Fits};
 ghost use Rattle.outside.specs.Sinks.{asset};
 ghost use Rattle.pack_run.specs.Report.{CanReport, IsOfBuild};
-ghost use Rattle.pack_run.specs.Verdict.{build_of, module_texts, outcome_of};
+ghost use Rattle.pack_run.specs.Verdict.{IsGraphVerdict, build_of};
 
 use crate::{Build, Verdict};
-use chunk_code::entry_text;
-use fault_place::{Bytes, Fault, MAX_TEXT, ModuleNo, NoMemory, Seq, Text, sort_faults};
-use graph_types::ModuleGraph;
-use module_code::module_text;
+use fault_place::{Bytes, Fault, NoMemory, Seq, Text, sort_faults};
+use graph_types::{Config, ModuleGraph};
 use outside::Asset;
-use stats_text::stats;
+use seal_build::laws::sealed_serves;
+use seal_build::{SealEnd, Sealed, seal_by_one};
 use std::alloc::{AllocError, Global};
 
 fn new_asset(alloc: Global, name: &str, bytes: Bytes) -> Result<Asset, NoMemory>
@@ -26,31 +23,17 @@ fn new_asset(alloc: Global, name: &str, bytes: Bytes) -> Result<Asset, NoMemory>
     })
 }
 
-fn texts(alloc: Global, graph: &ModuleGraph) -> Result<Vec<Bytes>, NoMemory>
-    requires { AllByRecursion IsWhole graph.now.records }
-    ensures { IfOk result (λ texts. texts.items ≡ module_texts graph.now.records) }
+/// The assets of what so many modules were sealed to, and behind them the stats.
+fn build(alloc: Global, modules: u32, sealed: Sealed) -> Result<Build, NoMemory>
+    ensures { IfOk result (λ made. made ≡ build_of modules sealed) }
 {
-    let mut texts = Vec::new(alloc);
-    for number in 0..graph.count() {
-        texts.push(module_text(alloc, graph, ModuleNo(number))?)?;
-    }
-    Ok(texts)
-}
-
-fn build(alloc: Global, graph: &ModuleGraph) -> Result<Build, NoMemory>
-    requires entry { length graph.now.roots ≡ 1 }
-    requires whole { AllByRecursion IsWhole graph.now.records }
-    requires sizes { AllByRecursion (λ rec. rec.size ≤ MAX_TEXT) graph.now.records }
-    ensures { IfOk result (λ made. made ≡ build_of graph.now) }
-{
-    let texts = texts(alloc, graph)?;
-    let main = entry_text(alloc, 0, &texts, graph.entry_roots(0))?;
-    let mut assets = Seq::new(alloc);
-    assets.push(new_asset(alloc, "main.js", main)?)?;
-    assets.push(new_asset(alloc, "stats.json", stats(alloc, graph)?)?)?;
+    let stats = new_asset(alloc, "stats.json", sealed.stats)?;
+    let chunks = sealed.chunks;
+    let mut assets = sealed.assets;
+    assets.push(stats)?;
     Ok(Build {
-        modules: graph.count(),
-        chunks: 1,
+        modules,
+        chunks,
         assets,
     })
 }
@@ -65,27 +48,62 @@ fn copied(alloc: Global, faults: &[Fault]) -> Result<Vec<Fault>, NoMemory>
     Ok(copy)
 }
 
-/// The faults in their order. More than an end can count don't fit in memory.
+/// The faults in their order.
 fn in_order(alloc: Global, faults: &[Fault]) -> Result<Seq<Fault>, NoMemory>
-    ensures value { IfOk result (λ ordered. ordered ≡ in_order faults.now) }
-    ensures few { IfOk result (λ ordered. length ordered < 2 ^ 32) }
+    ensures { IfOk result (λ ordered. ordered ≡ in_order faults.now) }
 {
     let mut ordered = copied(alloc, faults)?;
     sort_faults(alloc, &mut ordered)?;
-    if ordered.len() > u32::MAX as usize {
-        return Err(AllocError);
-    }
     Ok(Seq::from_vec(ordered))
 }
 
-pub fn outcome(alloc: Global, graph: &ModuleGraph) -> Result<Verdict, NoMemory>
-    requires { HoldsWholeRecords 1 graph.now }
-    ensures value { IfOk result (λ verdict. verdict ≡ outcome_of graph.now) }
+/// The verdict of faults. More than an end can count don't fit in memory.
+fn faulty(faults: Seq<Fault>) -> Result<Verdict, NoMemory>
+    ensures value { IfOk result (λ verdict. verdict ≡ Verdict.Faults faults) }
+    ensures reportable { IfOk result CanReport }
+    ensures build { IfOk result IsOfBuild }
+{
+    if faults.as_slice().len() > u32::MAX as usize {
+        return Err(AllocError);
+    }
+    Ok(Verdict::Faults(faults))
+}
+
+/// The verdict of a graph without faults.
+fn sealed(
+    alloc: Global,
+    graph: &ModuleGraph,
+    config: &Config,
+    path: &str,
+) -> Result<Verdict, NoMemory>
+    requires fits { Fits (length config.now.entries) graph.now }
+    requires no_faults { graph.now.faults ≡ [] }
+    ensures value { IfOk result (IsGraphVerdict graph.now config.now path.now []) }
+    ensures reportable { IfOk result CanReport }
+    ensures build { IfOk result IsOfBuild }
+{
+    sealed_serves();
+    match seal_by_one(alloc, graph, config, path) {
+        Ok(sealed) => Ok(Verdict::Built(build(alloc, graph.count(), sealed)?)),
+        Err(SealEnd::Faults(faults)) => faulty(faults),
+        Err(SealEnd::Limit(limit)) => Ok(Verdict::Limit(limit)),
+        Err(SealEnd::NoMemory) => Err(AllocError),
+    }
+}
+
+pub fn outcome(
+    alloc: Global,
+    graph: &ModuleGraph,
+    config: &Config,
+    path: &str,
+) -> Result<Verdict, NoMemory>
+    requires { Fits (length config.now.entries) graph.now }
+    ensures value { IfOk result (IsGraphVerdict graph.now config.now path.now graph.now.faults) }
     ensures reportable { IfOk result CanReport }
     ensures build { IfOk result IsOfBuild }
 {
     match graph.faults() {
-        [] => Ok(Verdict::Built(build(alloc, graph)?)),
-        faults => Ok(Verdict::Faults(in_order(alloc, faults)?)),
+        [] => sealed(alloc, graph, config, path),
+        faults => faulty(in_order(alloc, faults)?),
     }
 }

@@ -1,6 +1,6 @@
-use crate::ConfigKind;
 use fault_place::{Fault, Limit, Place, Seq};
 use outside::Asset;
+use pack_config::ConfigKind;
 
 /// What a build of a tree comes to, whoever reads the tree and however often a call fails.
 #[derive(Debug, Drop)]
@@ -9,7 +9,7 @@ pub enum Verdict {
     Usage,
     /// The configuration's text has no meaning.
     Config { place: Place, kind: ConfigKind },
-    /// The tree exceeds a limit.
+    /// The tree or the build exceeds a limit.
     Limit(Limit),
     /// The faults in their order; there is at least one.
     Faults(Seq<Fault>),

@@ -3,8 +3,9 @@ ghost use Rattle.fault_place.specs.Fault.{line_of};
 ghost use Rattle.fault_place.specs.Limit.{name_of, number_of};
 ghost use Rattle.pack_run.specs.Verdict.{config_kind_name, lines_of, config_line, limit_line, count_line, built_line};
 
-use crate::{Build, ConfigKind, Verdict};
+use crate::{Build, Verdict};
 use fault_place::{Bytes, Fault, Limit, NoMemory, Place, fault_line};
+use pack_config::ConfigKind;
 use pack_util::{add, add_around, add_number};
 use std::alloc::Global;
 
@@ -13,7 +14,11 @@ fn kind_name(kind: ConfigKind) -> &'static [u8]
 {
     match kind {
         ConfigKind::TooLong => b"TooLong",
-        ConfigKind::NotYet => b"NotYet",
+        ConfigKind::Json => b"Json",
+        ConfigKind::UnknownKey => b"UnknownKey",
+        ConfigKind::WrongType => b"WrongType",
+        ConfigKind::OutOfRange => b"OutOfRange",
+        ConfigKind::Repeated => b"Repeated",
     }
 }
 

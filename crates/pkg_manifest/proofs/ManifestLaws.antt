@@ -6,7 +6,7 @@ use Rattle.json_order.specs.Answer.{IsAnswer}
 use Rattle.pkg_manifest.specs.declared.fields.Manifest.{Manifest}
 use Rattle.pkg_manifest.specs.declared.manifest_end.ManifestEnd.{ManifestEnd}
 use Rattle.pkg_manifest.specs.declared.manifest_end.ManifestEnd.TheVariants.{BadManifest, NoMemory}
-use Rattle.pkg_manifest.specs.Manifest.{size_limit, manifest_in, IsManifestOf, AnswersBy}
+use Rattle.pkg_manifest.specs.Manifest.{size_limit, manifest_in, IsManifestOf, ManifestAnswersBy}
 
 abbrev IsOnly : List ℕ → JsonTree → Type 0
 IsOnly text tree = (other : JsonTree) → IsAnswer text (Ok other) → tree ≡ other
@@ -35,18 +35,18 @@ bad_only text None bad is = refl
 
 -- what holds of every manifest of which P holds holds of the result
 answers_weaker : (P Q : Option Manifest → Type 0) (result : Result Manifest ManifestEnd) → ((found : Option Manifest) → P found → Q found)
-    → AnswersBy P result → AnswersBy Q result
+    → ManifestAnswersBy P result → ManifestAnswersBy Q result
 answers_weaker P Q (Ok manifest) h k = h (Some manifest) k
 answers_weaker P Q (Err BadManifest) h k = h None k
 answers_weaker P Q (Err NoMemory) h k = tt
 
 pub tree_found : (text : List ℕ) (tree : JsonTree) (result : Result Manifest ManifestEnd) → length text ≤ size_limit → IsAnswer text (Ok tree)
-    → AnswersBy (λ given. given ≡ manifest_in tree.node) result → AnswersBy (IsManifestOf text) result
+    → ManifestAnswersBy (λ given. given ≡ manifest_in tree.node) result → ManifestAnswersBy (IsManifestOf text) result
 tree_found text tree result short is h =
     answers_weaker (λ given. given ≡ manifest_in tree.node) (IsManifestOf text) result (λ found e. manifest_of_tree text tree found short is (sym e)) h
 
 pub tree_found_only : (text : List ℕ) (tree : JsonTree) (result : Result Manifest ManifestEnd) → length text ≤ size_limit → IsAnswer text (Ok tree) → IsOnly text tree
-    → AnswersBy (λ given. given ≡ manifest_in tree.node) result → (found : Option Manifest) → IsManifestOf text found → AnswersBy (λ given. given ≡ found) result
+    → ManifestAnswersBy (λ given. given ≡ manifest_in tree.node) result → (found : Option Manifest) → IsManifestOf text found → ManifestAnswersBy (λ given. given ≡ found) result
 tree_found_only text tree result short is only h found holds =
     answers_weaker (λ given. given ≡ manifest_in tree.node) (λ given. given ≡ found) result (λ given e. e ∙ tree_only text tree found short is only holds) h
 

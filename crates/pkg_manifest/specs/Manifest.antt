@@ -71,7 +71,7 @@ IsManifestOf text (Some manifest) = (length text ≤ size_limit) × ((tree : Jso
 IsManifestOf text None = IsBad text
 
 -- the result of a call is the answer, unless memory ran out
-abbrev pub AnswersBy : (Option Manifest → Type 0) → Result Manifest ManifestEnd → Type 0
-AnswersBy Is (Ok manifest) = Is (Some manifest)
-AnswersBy Is (Err BadManifest) = Is None
-AnswersBy Is (Err NoMemory) = Unit {0}
+abbrev pub ManifestAnswersBy : (Option Manifest → Type 0) → Result Manifest ManifestEnd → Type 0
+ManifestAnswersBy Is (Ok manifest) = Is (Some manifest)
+ManifestAnswersBy Is (Err BadManifest) = Is None
+ManifestAnswersBy Is (Err NoMemory) = Unit {0}

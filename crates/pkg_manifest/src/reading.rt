@@ -1,6 +1,6 @@
 ghost use Rattle.std.specs.Prelude.{◌≡◌, List, ℕ, Option};
 ghost use Rattle.pkg_manifest.specs.declared.fields.Manifest.{Manifest};
-ghost use Rattle.pkg_manifest.specs.Manifest.{AnswersBy, IsManifestOf, manifest_in};
+ghost use Rattle.pkg_manifest.specs.Manifest.{ManifestAnswersBy, IsManifestOf, manifest_in};
 
 use crate::fields::fields_of;
 use crate::{Manifest, ManifestEnd};
@@ -13,9 +13,9 @@ const SIZE_LIMIT: usize = 1_048_576;
 
 /// The manifest that a text is.
 pub fn manifest(alloc: Global, text: &[u8]) -> Result<Manifest, ManifestEnd>
-    ensures found { AnswersBy (IsManifestOf text.now) result }
+    ensures found { ManifestAnswersBy (IsManifestOf text.now) result }
     // No other answer is right.
-    ensures only { (answer : Option Manifest) → IsManifestOf text.now answer → AnswersBy (λ given. given ≡ answer) result }
+    ensures only { (answer : Option Manifest) → IsManifestOf text.now answer → ManifestAnswersBy (λ given. given ≡ answer) result }
 {
     if text.len() > SIZE_LIMIT {
         return Err(ManifestEnd::BadManifest);
@@ -35,7 +35,7 @@ pub fn one_manifest()
 }
 
 fn manifest_in(alloc: Global, tree: JsonTree) -> Result<Manifest, ManifestEnd>
-    ensures { AnswersBy (λ given. given ≡ manifest_in tree.node) result }
+    ensures { ManifestAnswersBy (λ given. given ≡ manifest_in tree.node) result }
 {
     match tree.node {
         JsonNode::Object(members) => Ok(fields_of(alloc, members)?),

@@ -7,9 +7,9 @@ use Rattle.outside.specs.Tree.{Tree, is_folder}
 use Rattle.tree_listing.specs.Listing.{IsListingOf, Listed}
 use Rattle.resolve_path.proofs.Above.{listed_is}
 use Rattle.resolve_path.specs.Folders.{places_from}
-use Rattle.resolve_path.specs.Manifests.{Manifests, Reading, manifests_of}
+use Rattle.resolve_path.specs.Manifests.{Manifests, ManifestReading, manifests_of}
 use Rattle.resolve_path.specs.Packages.{bare_places, found_places, package_paths, package_places}
-use Rattle.resolve_path.specs.Places.{answer_of}
+use Rattle.resolve_path.specs.Places.{answer_among}
 use Rattle.resolve_path.specs.Requests.{Asked, aliased, asked_of, bare_of, is_aliased, is_relative, replaced}
 use Rattle.resolve_path.specs.Resolution.{asked_places, resolution_of}
 use Rattle.resolve_path.specs.declared.request.BareRequest.{BareRequest}
@@ -54,7 +54,7 @@ module _ (tree : Tree) (listing : Listed) (of : IsListingOf tree listing) where
   same_folders : is_listed listing.folders ≡ is_folder tree
   same_folders = λ i path. sym (listed_is listing.folders path (is_folder tree path) ((of.folders path).1, (of.folders path).0)) i
 
-  pub resolution_is : (reading : Reading) (config : Config) (kind : RequestKind) (folder request : List ℕ) (asked : Asked) → asked ≡ asked_of config.alias folder request
-      → answer_of listing.files (asked_places (manifests_of reading tree) (is_listed listing.folders) config kind asked) ≡ resolution_of reading tree config folder request kind
+  pub resolution_is : (reading : ManifestReading) (config : Config) (kind : RequestKind) (folder request : List ℕ) (asked : Asked) → asked ≡ asked_of config.alias folder request
+      → answer_among listing.files (asked_places (manifests_of reading tree) (is_listed listing.folders) config kind asked) ≡ resolution_of reading tree config folder request kind
   resolution_is reading config kind folder request asked e =
-      (λ i. answer_of (of.files i) (asked_places (manifests_of reading tree) (same_folders i) config kind (e i)))
+      (λ i. answer_among (of.files i) (asked_places (manifests_of reading tree) (same_folders i) config kind (e i)))

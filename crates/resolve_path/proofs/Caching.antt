@@ -19,7 +19,7 @@ use Rattle.pkg_manifest.specs.Manifest.{IsManifestOf, size_limit}
 use Rattle.pkg_manifest.specs.declared.fields.Manifest.{Manifest}
 use Rattle.resolve_path.specs.Caches.{AreTrue, IsCache, IsManifestAt}
 use Rattle.resolve_path.proofs.Trees.{flip, is_some_place}
-use Rattle.resolve_path.specs.Manifests.{IsReading, Reading}
+use Rattle.resolve_path.specs.Manifests.{IsReading, ManifestReading}
 use Rattle.resolve_path.specs.inner.Fetches.{is_at, nothing}
 use Rattle.resolve_path.specs.declared.kept.KeptManifest.{KeptManifest}
 
@@ -27,7 +27,7 @@ pub one_manifest : (text : List ℕ) (one other : Option Manifest) → IsManifes
 one_manifest text = one_manifest_of text (λ one other. one_answer_from _ _ one other)
 
 -- what a file is by a reading
-pub as_read : (tree : Tree) (path : List ℕ) (answer : Option Manifest) (reading : Reading) → IsReading reading → IsManifestAt tree path answer → Some answer ≡ option_map reading (bytes_at tree path)
+pub as_read : (tree : Tree) (path : List ℕ) (answer : Option Manifest) (reading : ManifestReading) → IsReading reading → IsManifestAt tree path answer → Some answer ≡ option_map reading (bytes_at tree path)
 as_read tree path answer reading is (bytes, at, own) =
     ap Some (one_manifest bytes answer (reading bytes) own (is bytes)) ∙ sym (ap (option_map reading) at)
 

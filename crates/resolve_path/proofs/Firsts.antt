@@ -10,7 +10,7 @@ use Rattle.graph_types.specs.declared.config.Config.{Config}
 use Rattle.fault_place.specs.declared.number.FileId.{FileId}
 use Rattle.tree_listing.specs.Listing.{number_at}
 use Rattle.resolve_path.specs.Files.{file_paths}
-use Rattle.resolve_path.specs.Places.{Places, answer_of, before, file_or, first_number, is_file}
+use Rattle.resolve_path.specs.Places.{Places, answer_among, before, file_or, first_number, is_file}
 use Rattle.resolve_path.specs.declared.resolution.Resolution.TheVariants.{File}
 
 step : (look : List ℕ → Option ℕ) (path : List ℕ) (rest : Option (List ℕ)) (found : Option ℕ) → look path ≡ found
@@ -75,12 +75,12 @@ first_flat files paths (name ∷ names) d some =
     ∙ sym (first_append files (paths name) (flat_map paths names))
 
 -- paths that are tried before others
-pub found_before : (files : List (List ℕ × ℕ)) (paths : List (List ℕ)) (places : Places) (file : FileId) → number_of (Some file) ≡ first_number files paths → File file ≡ answer_of files (before paths places)
+pub found_before : (files : List (List ℕ × ℕ)) (paths : List (List ℕ)) (places : Places) (file : FileId) → number_of (Some file) ≡ first_number files paths → File file ≡ answer_among files (before paths places)
 found_before files paths places file is =
     ap (λ found. file_or places.verdict (option_or found (first_number files places.paths))) is
     ∙ ap (file_or places.verdict) (sym (first_append files paths places.paths))
 
-pub none_before : (files : List (List ℕ × ℕ)) (paths : List (List ℕ)) (places : Places) → None ≡ first_number files paths → answer_of files places ≡ answer_of files (before paths places)
+pub none_before : (files : List (List ℕ × ℕ)) (paths : List (List ℕ)) (places : Places) → None ≡ first_number files paths → answer_among files places ≡ answer_among files (before paths places)
 none_before files paths places is =
     ap (λ found. file_or places.verdict (option_or found (first_number files places.paths))) is
     ∙ ap (file_or places.verdict) (sym (first_append files paths places.paths))

@@ -5,7 +5,7 @@ use Rattle.outside.specs.Tree.{Tree}
 use Rattle.outside.specs.Views.{ReaderView}
 use Rattle.outside.specs.declared.entry.Why.{Why}
 use Rattle.tree_listing.specs.Listing.{Listed}
-use Rattle.resolve_path.specs.Resolves.{Keeps}
+use Rattle.resolve_path.specs.Resolves.{KeepsManifests}
 use Rattle.resolve_path.specs.declared.kept.KeptManifest.{KeptManifest}
 
 pub gains_none : (view : ReaderView) → Gains view view (AreReadsFor is_manifest)
@@ -22,11 +22,11 @@ gains_more before between now first second = (
   only_append first.0 second.0 first.2 second.2,
 )
 
-pub keeps_all : (tree : Tree) (listing : Listed) (cache : List KeptManifest) (view : ReaderView) → Keeps tree listing cache cache view view
+pub keeps_all : (tree : Tree) (listing : Listed) (cache : List KeptManifest) (view : ReaderView) → KeepsManifests tree listing cache cache view view
 keeps_all tree listing cache view = record { log = gains_none view; listed = refl; no_stray = λ of. refl; cache = λ true. true }
 
 pub keeps_on : (tree : Tree) (listing : Listed) (old between new : List KeptManifest) (before middle now : ReaderView)
-    → Keeps tree listing old between before middle → Keeps tree listing between new middle now → Keeps tree listing old new before now
+    → KeepsManifests tree listing old between before middle → KeepsManifests tree listing between new middle now → KeepsManifests tree listing old new before now
 keeps_on tree listing old between new before middle now first second = record {
   log = gains_more before middle now first.log second.log;
   listed = second.listed ∙ first.listed;

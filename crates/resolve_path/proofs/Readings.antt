@@ -9,7 +9,7 @@ use Rattle.json_order.specs.declared.tree.JsonTree.{JsonTree}
 use Rattle.json_order.specs.inner.Steps.{run, fresh}
 use Rattle.pkg_manifest.specs.Manifest.{IsManifestOf, manifest_in, size_limit}
 use Rattle.pkg_manifest.specs.declared.fields.Manifest.{Manifest}
-use Rattle.resolve_path.specs.Manifests.{IsReading, Reading}
+use Rattle.resolve_path.specs.Manifests.{IsReading, ManifestReading}
 
 abbrev Answer : List ℕ → Type 0
 Answer text = (answer : Option Manifest) × IsManifestOf text answer
@@ -28,5 +28,5 @@ of_size text (inl long) = (None, inl long)
 of_size text (inr short) =
     of_json text short (run 128 fresh (start_of text) (drop (start_of text) text)) (run_answers (start_of text) (drop (start_of text) text) _ refl)
 
-pub some_reading : (reading : Reading) × IsReading reading
+pub some_reading : (reading : ManifestReading) × IsReading reading
 some_reading = (λ text. (of_size text (cases_lt size_limit (length text))).0, λ text. (of_size text (cases_lt size_limit (length text))).1)

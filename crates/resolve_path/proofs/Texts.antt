@@ -6,7 +6,7 @@ use Rattle.std.specs.Str.Pattern.{FindsTextPrefix}
 use Rattle.std.proofs.lemmas.List.{take-append-drop}
 use Rattle.std.proofs.lemmas.Slice.Eq.{bytes_eq-Decides}
 use Rattle.std.proofs.lemmas.Str.Pattern.{starts_text}
-use Rattle.resolve_path.specs.Requests.{goes_on, is_aliased, name_of, rest_behind}
+use Rattle.resolve_path.specs.Requests.{goes_on, is_aliased, alias_name, rest_behind}
 
 false_unless : (b : Bool) → (b ≡ true → ⊥) → b ≡ false
 false_unless true h = absurd (h refl)
@@ -19,21 +19,21 @@ no_end key none =
     false_unless (ends_with eqb key (36 ∷ []))
     (λ e. none front (sym (take-append-drop (length key - 1) key) ∙ ap (λ end. front ++ end) (sym ((bytes_eq-Decides (36 ∷ []) (drop (length key - 1) key)).0 e))))
 
-pub whole_name : (key : List ℕ) → ((front : List ℕ) → key ≡ front ++ 36 ∷ [] → ⊥) → key ≡ name_of key
+pub whole_name : (key : List ℕ) → ((front : List ℕ) → key ≡ front ++ 36 ∷ [] → ⊥) → key ≡ alias_name key
 whole_name key none = rw (no_end key none) refl
 
 prefix_true : (text before : List ℕ) (n : ℕ) → FindsTextPrefix before text (Some n) → starts_with eqb text before ≡ true
 prefix_true text before n found =
     sym (starts_text true before text (n, found, subst (λ i. IsCharBoundary text i) (sym found.0) found.2))
 
-pub rest_none : (request key name : List ℕ) → name ≡ name_of key → FindsTextPrefix name request None → None ≡ cond (is_aliased request key) (Some (rest_behind request key)) None
+pub rest_none : (request key name : List ℕ) → name ≡ alias_name key → FindsTextPrefix name request None → None ≡ cond (is_aliased request key) (Some (rest_behind request key)) None
 rest_none request key name is none =
-    let e : starts_with eqb request (name_of key) ≡ false = ap (starts_with eqb request) (sym is) ∙ sym (starts_text false name request none) in
+    let e : starts_with eqb request (alias_name key) ≡ false = ap (starts_with eqb request) (sym is) ∙ sym (starts_text false name request none) in
     rw e refl
 
 -- what follows the name, where the request begins with it
-module _ (request key name rest : List ℕ) (n : ℕ) (is : name ≡ name_of key) (found : FindsTextPrefix name request (Some n)) (behind : rest ≡ drop n request) where
-  begins : starts_with eqb request (name_of key) ≡ true
+module _ (request key name rest : List ℕ) (n : ℕ) (is : name ≡ alias_name key) (found : FindsTextPrefix name request (Some n)) (behind : rest ≡ drop n request) where
+  begins : starts_with eqb request (alias_name key) ≡ true
   begins = ap (starts_with eqb request) (sym is) ∙ prefix_true request name n found
 
   pub rest_is : rest ≡ rest_behind request key

@@ -11,8 +11,8 @@ use Rattle.resolve_path.specs.Manifests.{Manifests, manifest_path}
 use Rattle.resolve_path.specs.Places.{Places, before, only}
 
 -- the text of a main field, where the manifest has it as one
-abbrev pub main_of : Manifest → List ℕ → Option (List ℕ)
-main_of manifest field = option_map (λ main. main.1) (find (λ main. bytes_eq main.0 field) manifest.mains)
+abbrev pub main_at : Manifest → List ℕ → Option (List ℕ)
+main_at manifest field = option_map (λ main. main.1) (find (λ main. bytes_eq main.0 field) manifest.mains)
 
 -- what a main field names: a file, or a folder by its main files
 abbrev pub named_paths : Config → Result (List ℕ) PathEnd → List (List ℕ)
@@ -30,7 +30,7 @@ abbrev pub folder_places : Config → List ℕ → Option (Option Manifest) → 
 folder_places config folder None = record { paths = main_file_paths config folder; verdict = Unresolved }
 folder_places config folder (Some None) = only (BadManifest (manifest_path folder))
 folder_places config folder (Some (Some manifest)) =
-    record { paths = flat_map (λ field. main_paths config folder (main_of manifest field)) config.main_fields ++ main_file_paths config folder; verdict = Unresolved }
+    record { paths = flat_map (λ field. main_paths config folder (main_at manifest field)) config.main_fields ++ main_file_paths config folder; verdict = Unresolved }
 
 -- a text that ends with a slash names a folder alone
 abbrev pub paths_as_file : Config → List ℕ → List ℕ → List (List ℕ)

@@ -10,10 +10,10 @@ abbrev pub manifest_path : List ℕ → List ℕ
 manifest_path folder = child_of folder (codes "package.json")
 
 -- which manifest each text is, or that it is none
-abbrev pub Reading : Type 0
-Reading = List ℕ → Option Manifest
+abbrev pub ManifestReading : Type 0
+ManifestReading = List ℕ → Option Manifest
 
-abbrev pub IsReading : Reading → Type 0
+abbrev pub IsReading : ManifestReading → Type 0
 IsReading reading = (text : List ℕ) → IsManifestOf text (reading text)
 
 -- what each folder has: no file `package.json`, or one that is a manifest or is none
@@ -21,5 +21,5 @@ abbrev pub Manifests : Type 0
 Manifests = List ℕ → Option (Option Manifest)
 
 -- what the folders of a tree have
-abbrev pub manifests_of : Reading → Tree → Manifests
+abbrev pub manifests_of : ManifestReading → Tree → Manifests
 manifests_of reading tree folder = option_map reading (bytes_at tree (manifest_path folder))

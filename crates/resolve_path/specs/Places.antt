@@ -30,13 +30,13 @@ file_or verdict None = verdict
 file_or verdict (Some number) = File (file_id number)
 
 -- the first of the paths that is a file, else the verdict
-abbrev pub answer_of : List (List ℕ × ℕ) → Places → Resolution
-answer_of files places = file_or places.verdict (first_number files places.paths)
+abbrev pub answer_among : List (List ℕ × ℕ) → Places → Resolution
+answer_among files places = file_or places.verdict (first_number files places.paths)
 
 -- the file of an answer is one of so many
-abbrev pub IsWithin : ℕ → Resolution → Type 0
-IsWithin count (File file) = file.0 < count
-IsWithin count Unresolved = Unit {0}
-IsWithin count NotExported = Unit {0}
-IsWithin count (BadManifest path) = Unit {0}
-IsWithin count (BadTarget path) = Unit {0}
+abbrev pub HasFileWithin : ℕ → Resolution → Type 0
+HasFileWithin count (File file) = file.0 < count
+HasFileWithin count Unresolved = Unit {0}
+HasFileWithin count NotExported = Unit {0}
+HasFileWithin count (BadManifest path) = Unit {0}
+HasFileWithin count (BadTarget path) = Unit {0}

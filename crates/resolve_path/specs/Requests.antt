@@ -14,12 +14,12 @@ abbrev pub is_whole : List ℕ → Bool
 is_whole key = ends_with nat_eq key (codes "$")
 
 -- what a key stands for, without that `$`
-abbrev pub name_of : List ℕ → List ℕ
-name_of key = if is_whole key then take (length key - 1) key else key
+abbrev pub alias_name : List ℕ → List ℕ
+alias_name key = if is_whole key then take (length key - 1) key else key
 
 -- what follows a key's name in a request that begins with it
 abbrev pub rest_behind : List ℕ → List ℕ → List ℕ
-rest_behind request key = drop (length (name_of key)) request
+rest_behind request key = drop (length (alias_name key)) request
 
 -- nothing follows the name, or a slash where the key has no `$`
 abbrev pub goes_on : List ℕ → List ℕ → Bool
@@ -27,7 +27,7 @@ goes_on rest key = bytes_eq rest [] || (not (is_whole key) && starts_with nat_eq
 
 -- a key matches what begins with its name and goes on so
 abbrev pub is_aliased : List ℕ → List ℕ → Bool
-is_aliased request key = starts_with nat_eq request (name_of key) && goes_on (rest_behind request key) key
+is_aliased request key = starts_with nat_eq request (alias_name key) && goes_on (rest_behind request key) key
 
 -- a request, and the folder from which it is looked up
 pub record Asked : Type 0 where

@@ -1,7 +1,7 @@
 //! Aliases of requests.
 ghost use Rattle.std.specs.Prelude.{◌≡◌, Some, None, IfOk, if◌then◌else◌};
 ghost use Rattle.std.specs.Option.{option_copied};
-ghost use Rattle.resolve_path.specs.Requests.{goes_on, is_aliased, is_whole, name_of, rest_behind};
+ghost use Rattle.resolve_path.specs.Requests.{goes_on, is_aliased, is_whole, alias_name, rest_behind};
 ghost use Rattle.resolve_path.specs.inner.Parts.{replaced_by};
 
 use fault_place::{NoMemory, Text};
@@ -15,7 +15,7 @@ fn is_whole(key: &str) -> bool
 
 /// What a key stands for.
 fn name_of(key: &str) -> &str
-    ensures { result.now ≡ name_of key.now }
+    ensures { result.now ≡ alias_name key.now }
 {
     match key.strip_suffix('$') {
         Some(name) => name,

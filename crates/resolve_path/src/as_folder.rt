@@ -3,9 +3,9 @@ ghost use Rattle.std.specs.Prelude.{◌≡◌, ◌++◌, Some, length, option_ma
 ghost use Rattle.std.specs.Option.{option_copied};
 ghost use Rattle.path_text.specs.Path.{IsFolderPath};
 ghost use Rattle.resolve_path.specs.Files.{file_paths, main_file_paths};
-ghost use Rattle.resolve_path.specs.Folders.{folder_places, main_of, main_paths, paths_as_file};
+ghost use Rattle.resolve_path.specs.Folders.{folder_places, main_at, main_paths, paths_as_file};
 ghost use Rattle.resolve_path.specs.Manifests.{manifest_path};
-ghost use Rattle.resolve_path.specs.Places.{IsWithin, answer_of, first_number};
+ghost use Rattle.resolve_path.specs.Places.{HasFileWithin, answer_among, first_number};
 ghost use Rattle.resolve_path.specs.inner.Parts.{path_named};
 
 use crate::Resolution;
@@ -55,7 +55,7 @@ pub(crate) fn named_as_file(
 
 /// The text of a main field.
 fn main_of<'a>(manifest: &'a Manifest, field: &str) -> Option<&'a str>
-    ensures { option_copied result ≡ main_of manifest.now field.now }
+    ensures { option_copied result ≡ main_at manifest.now field.now }
 {
     let main = manifest
         .mains
@@ -116,7 +116,7 @@ fn main_field(
 ) -> Result<Option<FileId>, NoMemory>
     requires { IsFolderPath folder.now }
     ensures { IfOk result (λ found. option_map (λ file. file.0) found
-        ≡ first_number listing.now.files (flat_map (λ field. main_paths config.now folder.now (main_of manifest.now field)) config.now.main_fields)) }
+        ≡ first_number listing.now.files (flat_map (λ field. main_paths config.now folder.now (main_at manifest.now field)) config.now.main_fields)) }
 {
     let mut left = config.main_fields.as_slice();
     while let [field, rest @ ..] = left {
@@ -160,8 +160,8 @@ pub(crate) fn in_folder(
     manifest: Option<&Option<Manifest>>,
 ) -> Result<Resolution, NoMemory>
     requires { IsFolderPath folder.now }
-    ensures within { IfOk result (IsWithin (length listing.now.files)) }
-    ensures is { IfOk result (λ answer. answer ≡ answer_of listing.now.files (folder_places config.now folder.now (option_copied manifest.entry))) }
+    ensures within { IfOk result (HasFileWithin (length listing.now.files)) }
+    ensures is { IfOk result (λ answer. answer ≡ answer_among listing.now.files (folder_places config.now folder.now (option_copied manifest.entry))) }
 {
     let found = match manifest {
         None => main_file(listing, config, buffer, folder)?,

@@ -6,7 +6,7 @@ ghost use Rattle.outside.specs.Tree.{Told};
 ghost use Rattle.path_text.specs.Path.{IsFolderPath};
 ghost use Rattle.resolve_path.specs.Manifests.{Manifests};
 ghost use Rattle.resolve_path.specs.Packages.{package_places};
-ghost use Rattle.resolve_path.specs.Places.{IsWithin};
+ghost use Rattle.resolve_path.specs.Places.{HasFileWithin};
 ghost use Rattle.resolve_path.specs.inner.Fetches.{FindsIn};
 ghost use Rattle.resolve_path.specs.inner.Parts.{Decides, exports_held};
 
@@ -45,7 +45,7 @@ fn by_manifest(
     manifest: Option<&Option<Manifest>>,
 ) -> Result<Option<Resolution>, NoMemory>
     requires { IsFolderPath folder.now }
-    ensures within { IfOk result (λ decided. IfSome decided (IsWithin (length listing.now.files))) }
+    ensures within { IfOk result (λ decided. IfSome decided (HasFileWithin (length listing.now.files))) }
     ensures is { (manifests : Manifests) → manifests folder.now ≡ option_copied manifest.entry
         → IfOk result (Decides listing.now.files manifests config.now kind folder.now rest.now) }
 {
@@ -78,7 +78,7 @@ pub(crate) fn in_package<R: TreeReader>(
     requires { IsFolderPath folder.now }
     ensures follows { R.follows reader.old reader.new }
     ensures cause { HasCause (R.view reader.old).faults (R.view reader.new).faults result }
-    ensures within { IfOk result (IsWithin (length listing.now.files)) }
+    ensures within { IfOk result (HasFileWithin (length listing.now.files)) }
     ensures told { Told (R.view reader.old).tree (λ tree. FindsIn tree listing.now cache.old cache.new (R.view reader.old) (R.view reader.new) result
         (λ manifests. package_places manifests config.now kind folder.now rest.now)) }
 {

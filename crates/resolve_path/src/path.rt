@@ -4,7 +4,7 @@ ghost use Rattle.outside.specs.Cause.{HasCause};
 ghost use Rattle.outside.specs.Tree.{Told};
 ghost use Rattle.path_text.specs.Path.{IsFolderPath};
 ghost use Rattle.resolve_path.specs.Folders.{folder_places, places_from};
-ghost use Rattle.resolve_path.specs.Places.{IsWithin};
+ghost use Rattle.resolve_path.specs.Places.{HasFileWithin};
 ghost use Rattle.resolve_path.specs.inner.Fetches.{FindsIn};
 
 use crate::as_folder::{in_folder, joined, named_as_file};
@@ -28,7 +28,7 @@ fn as_folder<R: TreeReader>(
     requires { IsFolderPath folder.now }
     ensures follows { R.follows reader.old reader.new }
     ensures cause { HasCause (R.view reader.old).faults (R.view reader.new).faults result }
-    ensures within { IfOk result (IsWithin (length listing.now.files)) }
+    ensures within { IfOk result (HasFileWithin (length listing.now.files)) }
     ensures told { Told (R.view reader.old).tree (λ tree. FindsIn tree listing.now cache.old cache.new (R.view reader.old) (R.view reader.new) result
         (λ manifests. folder_places config.now folder.now (manifests folder.now))) }
 {
@@ -50,7 +50,7 @@ pub(crate) fn named_from<R: TreeReader>(
     requires { IsFolderPath folder.now }
     ensures follows { R.follows reader.old reader.new }
     ensures cause { HasCause (R.view reader.old).faults (R.view reader.new).faults result }
-    ensures within { IfOk result (IsWithin (length listing.now.files)) }
+    ensures within { IfOk result (HasFileWithin (length listing.now.files)) }
     ensures told { Told (R.view reader.old).tree (λ tree. FindsIn tree listing.now cache.old cache.new (R.view reader.old) (R.view reader.new) result
         (λ manifests. places_from manifests config.now folder.now text.now)) }
 {

@@ -3,10 +3,10 @@ ghost use Rattle.outside.specs.Cause.{HasCause};
 ghost use Rattle.outside.specs.Tree.{Told};
 ghost use Rattle.path_text.specs.Path.{IsFolderPath};
 ghost use Rattle.resolve_path.specs.Packages.{bare_places};
-ghost use Rattle.resolve_path.specs.Places.{IsWithin};
+ghost use Rattle.resolve_path.specs.Places.{HasFileWithin};
 ghost use Rattle.resolve_path.specs.Requests.{bare_of, is_relative};
 ghost use Rattle.resolve_path.specs.Resolution.{asked_places, resolution_of};
-ghost use Rattle.resolve_path.specs.Resolves.{Finds, Keeps};
+ghost use Rattle.resolve_path.specs.Resolves.{Finds, KeepsManifests};
 ghost use Rattle.resolve_path.specs.inner.Fetches.{FindsIn};
 ghost use Rattle.resolve_path.specs.inner.Parts.{is_listed};
 
@@ -35,7 +35,7 @@ fn bare_from<R: TreeReader>(
 ) -> Result<Resolution, OutsideEnd>
     ensures follows { R.follows reader.old reader.new }
     ensures cause { HasCause (R.view reader.old).faults (R.view reader.new).faults result }
-    ensures within { IfOk result (IsWithin (length listing.now.files)) }
+    ensures within { IfOk result (HasFileWithin (length listing.now.files)) }
     ensures told { Told (R.view reader.old).tree (λ tree. FindsIn tree listing.now cache.old cache.new (R.view reader.old) (R.view reader.new) result
         (λ manifests. bare_places manifests (is_listed listing.now.folders) config.now kind base.now (bare_of request.now))) }
 {
@@ -73,7 +73,7 @@ fn located<R: TreeReader>(
     requires { IsFolderPath base.now }
     ensures follows { R.follows reader.old reader.new }
     ensures cause { HasCause (R.view reader.old).faults (R.view reader.new).faults result }
-    ensures within { IfOk result (IsWithin (length listing.now.files)) }
+    ensures within { IfOk result (HasFileWithin (length listing.now.files)) }
     ensures told { Told (R.view reader.old).tree (λ tree. FindsIn tree listing.now cache.old cache.new (R.view reader.old) (R.view reader.new) result
         (λ manifests. asked_places manifests (is_listed listing.now.folders) config.now kind (record { base = base.now; request = request.now }))) }
 {
@@ -124,8 +124,8 @@ pub fn resolve<R: TreeReader>(
     requires { IsFolderPath folder.now }
     ensures follows { R.follows reader.old reader.new }
     ensures cause { HasCause (R.view reader.old).faults (R.view reader.new).faults result }
-    ensures within { IfOk result (IsWithin (length listing.now.files)) }
-    ensures keeps { Told (R.view reader.old).tree (λ tree. Keeps tree listing.now cache.old cache.new (R.view reader.old) (R.view reader.new)) }
+    ensures within { IfOk result (HasFileWithin (length listing.now.files)) }
+    ensures keeps { Told (R.view reader.old).tree (λ tree. KeepsManifests tree listing.now cache.old cache.new (R.view reader.old) (R.view reader.new)) }
     ensures finds { Told (R.view reader.old).tree (λ tree. Finds tree listing.now cache.old result
         (λ reading. resolution_of reading tree config.now folder.now request.now kind)) }
 {

@@ -3,7 +3,7 @@ ghost use Rattle.std.specs.Prelude.{◌≡◌, Some, Ok, length, IfOk};
 ghost use Rattle.path_text.specs.Path.{IsFolderPath};
 ghost use Rattle.pkg_exports.specs.Exports.{target_of};
 ghost use Rattle.resolve_path.specs.Packages.{conditions_of, subpath_of, target_places};
-ghost use Rattle.resolve_path.specs.Places.{IsWithin, answer_of};
+ghost use Rattle.resolve_path.specs.Places.{HasFileWithin, answer_among};
 
 use crate::as_folder::{joined, manifest_path};
 use crate::{RequestKind, Resolution};
@@ -42,8 +42,8 @@ fn target_file(
     target: &str,
 ) -> Result<Resolution, NoMemory>
     requires { IsFolderPath folder.now }
-    ensures within { IfOk result (IsWithin (length listing.now.files)) }
-    ensures is { IfOk result (λ answer. answer ≡ answer_of listing.now.files (target_places folder.now (Ok (Some target.now)))) }
+    ensures within { IfOk result (HasFileWithin (length listing.now.files)) }
+    ensures is { IfOk result (λ answer. answer ≡ answer_among listing.now.files (target_places folder.now (Ok (Some target.now)))) }
 {
     let found = match joined(alloc, folder, target)? {
         Some(path) => listing.find(path.get()),
@@ -63,8 +63,8 @@ pub(crate) fn exported(
     rest: &str,
 ) -> Result<Resolution, NoMemory>
     requires { IsFolderPath folder.now }
-    ensures within { IfOk result (IsWithin (length listing.now.files)) }
-    ensures is { IfOk result (λ answer. answer ≡ answer_of listing.now.files (target_places folder.now (target_of exports.now (subpath_of rest.now) (conditions_of config.now kind)))) }
+    ensures within { IfOk result (HasFileWithin (length listing.now.files)) }
+    ensures is { IfOk result (λ answer. answer ≡ answer_among listing.now.files (target_places folder.now (target_of exports.now (subpath_of rest.now) (conditions_of config.now kind)))) }
 {
     let subpath = subpath(alloc, rest)?;
     let conditions = conditions(alloc, config, kind)?;

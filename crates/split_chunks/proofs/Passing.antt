@@ -27,7 +27,7 @@ use Rattle.split_plan.proofs.Keeping.{spent_chunks}
 use Rattle.split_plan.proofs.Orders.{in_places, same_fields}
 use Rattle.split_plan.proofs.Sets.{sharer_holds}
 use Rattle.split_chunks.specs.Accepted.{AreAccepted}
-use Rattle.split_chunks.specs.Rules.{broken, claimed, keeps_made, row_of, same_chunks, same_modules}
+use Rattle.split_chunks.specs.Rules.{broken, claimed, keeps_made, listed_row, same_chunks, same_modules}
 use Rattle.split_chunks.specs.inner.Kept.{KeepsFirst, KeepsClaim}
 use Rattle.split_chunks.proofs.Kept.{breaks_none}
 use Rattle.split_chunks.proofs.Takes.{moved-len}
@@ -41,7 +41,7 @@ any_chunk_no i (j ∷ list) = ap (λ b. (j == i) || b) (any_chunk_no i list)
 has_places : (row : List Bool) (i : ℕ) → has i (map chunk_no (places row)) ≡ is_in row i
 has_places row i = any_chunk_no i (places row) ∙ in_places row i
 
-row-places : (row : List Bool) (n : ℕ) → length row ≡ n → row_of (map chunk_no (places row)) n ≡ row
+row-places : (row : List Bool) (n : ℕ) → length row ≡ n → listed_row (map chunk_no (places row)) n ≡ row
 row-places row n len = sym (fill_by_all (λ i. has i (map chunk_no (places row))) row n false len (λ i lt. sym (has_places row i)))
 
 pub claims : (p : Plan) (s : State) (x : Candidate) → IsCandidate p s x → claimed p s (split_of p s x) ≡ x

@@ -24,12 +24,12 @@ abbrev pub rule_for : Plan → Split → Rule
 rule_for p y = rule_at p y.cache_group
 
 -- the set of the chunks of a list
-abbrev pub row_of : List ChunkNo → ℕ → List Bool
-row_of list n = map (λ i. has i list) (range_with_len 0 n)
+abbrev pub listed_row : List ChunkNo → ℕ → List Bool
+listed_row list n = map (λ i. has i list) (range_with_len 0 n)
 
 -- the candidate of the cache group with the chunks of the split
 abbrev pub claimed : Plan → State → Split → Candidate
-claimed p s y = candidate_of p s y.cache_group y.forced (row_of y.chunks (length s.chunks))
+claimed p s y = candidate_of p s y.cache_group y.forced (listed_row y.chunks (length s.chunks))
 
 abbrev pub same_chunks : List ChunkNo → List ChunkNo → Bool
 same_chunks xs ys = pointwise (λ x y. x.0 == y.0) xs ys

@@ -5,7 +5,7 @@ ghost use Rattle.chunk_graph.specs.Chunks.{is_in};
 ghost use Rattle.chunk_graph.specs.Moves.{chunk_no};
 ghost use Rattle.bit_rows.specs.Table.{blank};
 ghost use Rattle.split_plan.specs.Order.{places};
-ghost use Rattle.split_chunks.specs.Rules.{row_of, same_chunks, same_modules};
+ghost use Rattle.split_chunks.specs.Rules.{listed_row, same_chunks, same_modules};
 
 use bit_rows::BitRow;
 use fault_place::{ChunkNo, ModuleNo, NoMemory, Seq};
@@ -57,7 +57,7 @@ pub fn is_there(row: &BitRow, place: u32) -> bool
 
 /// The set of the chunks of a list that are among so many.
 pub fn chunk_row(alloc: Global, list: &[ChunkNo], len: u32) -> Result<BitRow, NoMemory>
-    ensures { IfOk result (λ row. row ≡ row_of list.now len) }
+    ensures { IfOk result (λ row. row ≡ listed_row list.now len) }
 {
     let mut row = BitRow::new(alloc, len)?;
     for chunk in list {

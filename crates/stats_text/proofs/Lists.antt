@@ -14,3 +14,7 @@ view-pushed old new value front whole data_of pushed before is more =
 
 pub view-list : (values : Vec Value Global) (whole : List Data) → map view values.items ≡ whole → view (Array values) ≡ list_stats whole
 view-list values whole is = view-Array values ∙ ap list_stats is
+
+-- a part that was added to a list's front
+pub added : {X : Type 0} (old new front part whole : List X) → new ≡ old ++ part → old ≡ front → whole ≡ front ++ part → new ≡ whole
+added old new front part whole after before more = after ∙ ap (λ list. list ++ part) before ∙ sym more

@@ -1,1 +1,4 @@
+pub mod inner
+pub mod Lists
 pub mod Stats
+pub mod Together

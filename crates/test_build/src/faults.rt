@@ -29,13 +29,14 @@ const UNRESOLVED: [Row; 6] = [
         1,
         "src/index.js:1:8: B9 cannot resolve \"../../b.js\"\nfaults: 1\n",
     ),
+    // A folder without a file of the name that is looked for in it.
     (
         &[
-            ("src/index.js", "import \"./lib.js\";"),
-            ("src/lib.js/index.js", ""),
+            ("src/index.js", "import \"./lib\";"),
+            ("src/lib/other.js", ""),
         ],
         1,
-        "src/index.js:1:8: B9 cannot resolve \"./lib.js\"\nfaults: 1\n",
+        "src/index.js:1:8: B9 cannot resolve \"./lib\"\nfaults: 1\n",
     ),
     // Of two modules, in byte order of path and not in that of finding.
     (
@@ -49,44 +50,42 @@ const UNRESOLVED: [Row; 6] = [
     ),
 ];
 
-const NOT_YET: [Row; 5] = [
+const OTHERS: [Row; 5] = [
     (
-        &[("src/index.js", "let a;")],
+        &[("src/index.js", "let a = 1 /*")],
         1,
-        "src/index.js:1:1: B20 form is not built yet\nfaults: 1\n",
+        "src/index.js:1:11: B2 unfinished token\nfaults: 1\n",
     ),
-    // A second LF begins no statement.
-    (
-        &[("src/index.js", "import \"./b.js\";\n\n"), ("src/b.js", "")],
-        1,
-        "src/index.js:2:1: B20 form is not built yet\nfaults: 1\n",
-    ),
-    // A module with this fault has no items: it leads to no other module, and has no other fault.
+    // A fault of tokens is a module's only one, and it leads to no other module.
     (
         &[
-            (
-                "src/index.js",
-                "import \"./no.js\";import \"./b.js\";let a;",
-            ),
-            ("src/b.js", "let b;"),
+            ("src/index.js", "import \"./no.js\";import \"./b.js\";("),
+            ("src/b.js", "@"),
         ],
         1,
-        "src/index.js:1:34: B20 form is not built yet\nfaults: 1\n",
+        "src/index.js:1:35: B6 text ends in a bracket\nfaults: 1\n",
     ),
-    // A package's name isn't a request yet.
     (
-        &[("src/index.js", "import \"b.js\";"), ("src/b.js", "")],
+        &[
+            ("src/index.js", "import(a);\nimport \"./b.json\";"),
+            ("src/b.json", "[1,]"),
+        ],
+        2,
+        "src/b.json:1:4: B14 bad JSON\nsrc/index.js:1:1: B8 import() needs one text\nfaults: 2\n",
+    ),
+    (
+        &[("src/index.js", "import \"./b.css\";"), ("src/b.css", "")],
         1,
-        "src/index.js:1:1: B20 form is not built yet\nfaults: 1\n",
+        "src/b.css:1:1: B15 module type is not supported\nfaults: 1\n",
     ),
     // What a module with a fault leads to is in the build.
     (
         &[
             ("src/index.js", "import \"./no.js\";\nimport \"./b.js\";\n"),
-            ("src/b.js", "let b;"),
+            ("src/b.js", "import a b;"),
         ],
         2,
-        "src/b.js:1:1: B20 form is not built yet\nsrc/index.js:1:8: B9 cannot resolve \"./no.js\"\nfaults: 2\n",
+        "src/b.js:1:1: B7 form is not supported\nsrc/index.js:1:8: B9 cannot resolve \"./no.js\"\nfaults: 2\n",
     ),
 ];
 
@@ -114,6 +113,6 @@ fn shows_requests_without_a_file(rt: HostRuntime) -> Result<(), Fail> {
 }
 
 #[test]
-fn shows_forms_that_are_not_built_yet(rt: HostRuntime) -> Result<(), Fail> {
-    shows_faults(&rt, rt.alloc(), &NOT_YET)
+fn shows_faults_of_texts(rt: HostRuntime) -> Result<(), Fail> {
+    shows_faults(&rt, rt.alloc(), &OTHERS)
 }

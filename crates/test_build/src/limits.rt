@@ -19,33 +19,28 @@ const LONG_PATH: Want<'static> = Want {
     printed: "limit: PathBytes above 1024\n",
 };
 
-const CONFIG_NOT_YET: Want<'static> = Want {
+const NO_CONFIG: Want<'static> = Want {
     end: End::Config,
     status: 2,
     held: 0,
-    printed: "c.json:1:1: config NotYet\n",
+    printed: "c.json:1:1: config Json\n",
 };
 
 const LONG_CONFIG: Want<'static> = Want {
     printed: "c.json:1:1: config TooLong\n",
-    ..CONFIG_NOT_YET
-};
-
-const FORM_NOT_YET: Want<'static> = Want {
-    end: End::Faults(1),
-    status: 1,
-    held: 0,
-    printed: "src/index.js:1:1: B20 form is not built yet\nfaults: 1\n",
+    ..NO_CONFIG
 };
 
 const LONG_MODULE: Want<'static> = Want {
+    end: End::Faults(1),
+    status: 1,
+    held: 0,
     printed: "src/index.js:1:1: B19 module is too long\nfaults: 1\n",
-    ..FORM_NOT_YET
 };
 
 /// Lengths, and what a configuration and a module of so many letters come to.
 const LONG_TEXTS: [(usize, Want<'static>, Want<'static>); 2] = [
-    (4_194_304, CONFIG_NOT_YET, FORM_NOT_YET),
+    (4_194_304, NO_CONFIG, BUILT),
     (4_194_305, LONG_CONFIG, LONG_MODULE),
 ];
 

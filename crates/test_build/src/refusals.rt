@@ -17,11 +17,33 @@ const MISSING: Want<'static> = Want {
     printed: "read failed\n",
 };
 
-const NOT_YET: Want<'static> = Want {
+const NO_JSON: Want<'static> = Want {
     end: End::Config,
     status: 2,
     held: 0,
-    printed: "c.json:1:1: config NotYet\n",
+    printed: "c.json:1:1: config Json\n",
+};
+
+const WRONG_TYPE: Want<'static> = Want {
+    printed: "c.json:1:10: config WrongType\n",
+    ..NO_JSON
+};
+
+const OUT_OF_RANGE: Want<'static> = Want {
+    printed: "c.json:1:10: config OutOfRange\n",
+    ..NO_JSON
+};
+
+const UNKNOWN_KEY: Want<'static> = Want {
+    printed: "c.json:2:1: config UnknownKey\n",
+    ..NO_JSON
+};
+
+const MAIN_MISSING: Want<'static> = Want {
+    end: End::Faults(1),
+    status: 1,
+    held: 0,
+    printed: "c.json:1:1: B9 cannot resolve \"./src/index.js\"\nfaults: 1\n",
 };
 
 const ABOVE: Want<'static> = Want {
@@ -54,12 +76,12 @@ const WORDS: [(&[&str], Want<'static>); 12] = [
 ];
 
 const CONFIGURATIONS: [(&str, Want<'static>); 8] = [
-    ("{}", NOT_YET),
-    ("", NOT_YET),
-    ("{\"entry\": \"./a.js\"}", NOT_YET),
-    ("{\"entry\":\"a.js\"}", NOT_YET),
-    ("{\"entry\":\"./a.ts\"}", NOT_YET),
-    ("{\"entry\":\"./a.js\"}\n\n", NOT_YET),
+    ("{}", MAIN_MISSING),
+    ("", NO_JSON),
+    ("{\"entry\": \"./a.js\"}", BUILT),
+    ("{\"entry\":5}", WRONG_TYPE),
+    ("{\"entry\":[]}", OUT_OF_RANGE),
+    ("{\"entry\":\"./a.js\",\n\"plugins\":[]}", UNKNOWN_KEY),
     ("{\"entry\":\"../a.js\"}\n", ABOVE),
     ("{\"entry\":\"./a.js\"}\n", BUILT),
 ];
@@ -74,7 +96,7 @@ fn takes_only_the_words_of_a_build(rt: HostRuntime) -> Result<(), Fail> {
 }
 
 #[test]
-fn takes_only_a_plain_entry(rt: HostRuntime) -> Result<(), Fail> {
+fn takes_only_what_is_a_configuration(rt: HostRuntime) -> Result<(), Fail> {
     let alloc = rt.alloc();
     for (config, want) in CONFIGURATIONS {
         let mut tree = MemTree::new(alloc);

@@ -16,12 +16,12 @@ has_digits word = nat_le 1 (length word) && nat_le (length word) 9 && all_ascii_
 abbrev pub within : ℕ → ℕ → ℕ → Option ℕ
 within low high number = if nat_le low number && nat_le number high then Some number else None
 
-abbrev pub number_of : ℕ → ℕ → Word → Option ℕ
-number_of low high word = if has_digits word then within low high (digits_value 10 word) else None
+abbrev pub number_within : ℕ → ℕ → Word → Option ℕ
+number_within low high word = if has_digits word then within low high (digits_value 10 word) else None
 
 abbrev pub workers_of : List Word → Option (Option ℕ)
 workers_of [] = Some None
-workers_of (value ∷ []) = option_map (λ number. Some number) (number_of 1 32 value)
+workers_of (value ∷ []) = option_map (λ number. Some number) (number_within 1 32 value)
 workers_of (value ∷ other ∷ rest) = None
 
 abbrev pub build_at : Option ℕ → Result Word PathEnd → Option Job
@@ -33,7 +33,7 @@ abbrev pub build_of : Word → Option ℕ → Option Job
 build_of word workers = build_at workers (normal_of word)
 
 abbrev pub sample_of : Word → Option ℕ → Option Job
-sample_of word workers = option_map (λ n. Sample n workers) (number_of 1 20_000 word)
+sample_of word workers = option_map (λ n. Sample n workers) (number_within 1 20_000 word)
 
 abbrev pub named_job : Word → Word → Option ℕ → Option Job
 named_job command word workers =

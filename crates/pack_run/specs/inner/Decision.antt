@@ -1,6 +1,6 @@
 -- What deciding answers and reads on a tree (this project).
-use Rattle.std.specs.Prelude.{◌≡◌, ◌⊎◌, ℕ, List, None, Result, Ok, Err, IsPermutation}
-use Rattle.outside.specs.Logs.{AreReadsFor, Gains, is_module, module_paths}
+use Rattle.std.specs.Prelude.{◌≡◌, ◌⊎◌, ℕ, List, [], None, Result, Ok, Err, IsPermutation}
+use Rattle.outside.specs.Logs.{Gains, is_config, module_paths, paths_for}
 use Rattle.outside.specs.Tree.{Tree}
 use Rattle.outside.specs.Views.{ReaderView}
 use Rattle.outside.specs.declared.entry.Why.{Why}
@@ -18,10 +18,10 @@ ReadsFor Is tree (Ok verdict) reads = (paths : List (List ℕ)) × Is verdict pa
 ReadsFor Is tree (Err Failed) reads = NoneTwice tree reads
 ReadsFor Is tree (Err NoMemory) reads = Unit {0}
 
--- a part of deciding behind the configuration, which reads modules and nothing else
+-- a part of deciding behind the configuration, which isn't read again
 pub record DecidesOn (Is : Verdict → List (List ℕ) → Type 0) (tree : Tree) (before now : ReaderView) (result : Result Verdict OutsideEnd) : Type 0 where
   pub no_stray : now.strays ≡ before.strays
-  pub reads : Gains before now (λ reads. AreReadsFor is_module reads × ReadsFor Is tree result reads)
+  pub reads : Gains before now (λ reads. (paths_for is_config reads ≡ []) × ReadsFor Is tree result reads)
 
 abbrev pub ReadsAll : List (List ℕ) → Tree → Result Verdict OutsideEnd → List (List ℕ × Why) → Type 0
 ReadsAll words tree (Ok verdict) reads = (paths : List (List ℕ)) × IsVerdict words tree verdict paths × ReadsBuild words paths reads

@@ -7,9 +7,9 @@ use Rattle.outside.specs.declared.outside_end.OutsideEnd.{OutsideEnd}
 use Rattle.pkg_manifest.specs.declared.fields.Manifest.{Manifest}
 use Rattle.tree_listing.specs.Listing.{Listed, IsListingOf}
 use Rattle.resolve_path.specs.Caches.{AreTrue, IsManifestAt}
-use Rattle.resolve_path.specs.Manifests.{IsReading, Manifests, Reading, manifests_of}
-use Rattle.resolve_path.specs.Places.{Places, answer_of}
-use Rattle.resolve_path.specs.Resolves.{Finds, Keeps}
+use Rattle.resolve_path.specs.Manifests.{IsReading, Manifests, ManifestReading, manifests_of}
+use Rattle.resolve_path.specs.Places.{Places, answer_among}
+use Rattle.resolve_path.specs.Resolves.{Finds, KeepsManifests}
 use Rattle.resolve_path.specs.declared.fetch.Fetched.{Fetched}
 use Rattle.resolve_path.specs.declared.fetch.Fetched.TheVariants.{Missing, Kept, Fresh}
 use Rattle.resolve_path.specs.declared.kept.KeptManifest.{KeptManifest}
@@ -44,10 +44,10 @@ pub record ReadsManifest (tree : Tree) (path : List ℕ) (before now : ReaderVie
 
 -- what a folder has is fetched
 pub record FetchesFrom (tree : Tree) (listing : Listed) (folder : List ℕ) (old new : List KeptManifest) (before now : ReaderView) (result : Result Fetched OutsideEnd) : Type 0 where
-  pub keeps : Keeps tree listing old new before now
-  pub is : IsListingOf tree listing → AreTrue tree old → (reading : Reading) → IsReading reading → IfOk result (λ fetched. held_of new fetched ≡ manifests_of reading tree folder)
+  pub keeps : KeepsManifests tree listing old new before now
+  pub is : IsListingOf tree listing → AreTrue tree old → (reading : ManifestReading) → IsReading reading → IfOk result (λ fetched. held_of new fetched ≡ manifests_of reading tree folder)
 
 -- a part of a resolution finds the first of some places that is a file, or their verdict
 pub record FindsIn (tree : Tree) (listing : Listed) (old new : List KeptManifest) (before now : ReaderView) (result : Result Resolution OutsideEnd) (places : Manifests → Places) : Type 0 where
-  pub keeps : Keeps tree listing old new before now
-  pub is : Finds tree listing old result (λ reading. answer_of listing.files (places (manifests_of reading tree)))
+  pub keeps : KeepsManifests tree listing old new before now
+  pub is : Finds tree listing old result (λ reading. answer_among listing.files (places (manifests_of reading tree)))

@@ -10,7 +10,7 @@ use Rattle.resolve_path.specs.declared.request_kind.RequestKind.{RequestKind}
 use Rattle.resolve_path.specs.declared.resolution.Resolution.{Resolution}
 use Rattle.resolve_path.specs.Folders.{places_from}
 use Rattle.resolve_path.specs.Manifests.{Manifests}
-use Rattle.resolve_path.specs.Places.{answer_of}
+use Rattle.resolve_path.specs.Places.{answer_among}
 use Rattle.resolve_path.specs.Packages.{holds_packages, package_in, package_places}
 use Rattle.resolve_path.specs.Requests.{is_aliased, replaced}
 
@@ -40,4 +40,4 @@ exports_held (Some (Some manifest)) = manifest.exports
 abbrev pub Decides : List (List ℕ × ℕ) → Manifests → Config → RequestKind → List ℕ → List ℕ → Option Resolution → Type 0
 Decides files manifests config kind folder rest decided =
     MatchOption decided (package_places manifests config kind folder rest ≡ places_from manifests config folder rest)
-    (λ answer. answer ≡ answer_of files (package_places manifests config kind folder rest))
+    (λ answer. answer ≡ answer_among files (package_places manifests config kind folder rest))

@@ -1,7 +1,7 @@
 use Rattle.std.proofs.Common.{◌≡◌, ◌≤◌, ◌∙◌, ap, arith, length, map, subst, sym}
 use Rattle.std.specs.List.{All}
 use Rattle.es_tokens.specs.AreTokens.{AreTokens}
-use Rattle.es_scan.specs.Flaws.{fault_of}
+use Rattle.es_scan.specs.Flaws.{fault_of_flaw}
 use Rattle.es_scan.specs.inner.State.{IsUpto}
 use Rattle.es_scan.proofs.FlawLemmas.{flaws_within}
 use Rattle.es_scan.proofs.ScanLemmas.{whole_scan}
@@ -32,4 +32,4 @@ returns c =
     whole_scan c.args.path.now c.args.text.now c.args.tokens.now c.add_all.new.state c.in_ok-place_all.field-0
     (subst (λ text. IsUpto text c.args.tokens.now (length c.args.tokens.now) c.add_all.new.state) c.new-2.ensures.text
     (subst (λ tokens. IsUpto c.new-2.result.text.now tokens (length tokens) c.add_all.new.state) c.new-2.ensures.tokens c.in_ok-add_all.ensures))
-    (c.in_ok-place_all.ensures ∙ ap (map (fault_of c.args.path.now c.args.text.now)) c.as_slice.ensures)
+    (c.in_ok-place_all.ensures ∙ ap (map (fault_of_flaw c.args.path.now c.args.text.now)) c.as_slice.ensures)

@@ -3,7 +3,7 @@ use Rattle.std.proofs.lemmas.List.{map_more}
 use Rattle.fault_place.specs.declared.number.FileId.{FileId}
 use Rattle.graph_types.specs.Modules.{file_id}
 use Rattle.make_rounds.specs.inner.Found.{with_finding, with_files}
-use Rattle.make_rounds.specs.inner.Gathered.{numbers_of}
+use Rattle.make_rounds.specs.inner.Answered.{numbers_of}
 use Rattle.make_rounds.proofs.Findings.{with_files-append}
 use Rattle.make_rounds.proofs.gathering.add_files.Goals as goal
 

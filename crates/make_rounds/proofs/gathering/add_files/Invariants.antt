@@ -1,6 +1,6 @@
 use Rattle.std.proofs.Common.{◌≡◌, take}
 use Rattle.make_rounds.specs.inner.Found.{with_files}
-use Rattle.make_rounds.specs.inner.Gathered.{numbers_of}
+use Rattle.make_rounds.specs.inner.Answered.{numbers_of}
 use Rattle.make_rounds.proofs.gathering.add_files.Given as goal
 
 abbrev pub invariant-loop-file : goal.invariant-loop-file

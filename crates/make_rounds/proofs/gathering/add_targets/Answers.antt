@@ -3,7 +3,7 @@ use Rattle.std.specs.Prelude.{filter_map, option_to_list}
 use Rattle.make_rounds.specs.inner.Found.{with_files}
 use Rattle.graph_types.specs.Targets.{item_target}
 use Rattle.make_rounds.proofs.Findings.{with_files-append}
-use Rattle.make_rounds.proofs.Lists.{filter_map-next}
+use Rattle.module_build.proofs.Lists.{filter_map-next}
 use Rattle.make_rounds.proofs.gathering.add_targets.Goals as goal
 
 pub loop-item-preserved : goal.loop-item-preserved

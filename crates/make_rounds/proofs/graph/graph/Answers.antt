@@ -1,20 +1,22 @@
-use Rattle.std.proofs.Common.{◌≤◌, ◌++◌, ◌∙◌, ap, length, refl, sym, subst, arith}
+use Rattle.std.proofs.Common.{◌++◌, ◌∙◌, ap, refl, sym, subst, arith}
+use Rattle.std.proofs.lemmas.List.Elements.{All-from_recursion}
+use Rattle.std.proofs.lemmas.List.Sorted.{All-permutation, length_permutation}
 use Rattle.std.proofs.lemmas.Result.{IfOk-weaker}
 use Rattle.std.specs.Prelude.{flat_map}
+use Rattle.graph_types.specs.Edges.{HasFewItems}
 use Rattle.graph_types.specs.Modules.{Graph}
 use Rattle.graph_types.specs.declared.record.ModRecord.{ModRecord}
 use Rattle.make_rounds.specs.inner.Gathered.{IsGraphFrom}
-use Rattle.make_rounds.proofs.Fits.{few, few_items}
 use Rattle.make_rounds.proofs.graph.graph.Goals as goal
 
 pub from_records-requires-clause-modules : goal.from_records-requires-clause-modules
 from_records-requires-clause-modules c =
-    let below : length c.in_file_order-records.result.items ≤ c.args.files = few c.args.files _ _ c.requires c.in_file_order-records.ensures.same in
-    let size = c.ranges.files.fits in
-    record { ascending = c.in_file_order-records.ensures.ascending c.requires.distinct; few = omega arith }
+    let same = length_permutation c.args.records.items c.in_file_order-records.result.items c.in_file_order-records.ensures.same in
+    record { ascending = c.in_file_order-records.ensures.ascending c.requires.distinct; few = omega (arith, same, c.requires.few) }
 
 pub from_records-requires-clause-few_items : goal.from_records-requires-clause-few_items
-from_records-requires-clause-few_items c = few_items c.args.files _ _ c.requires c.in_file_order-records.ensures.same
+from_records-requires-clause-few_items c =
+    All-permutation HasFewItems c.args.records.items c.in_file_order-records.result.items c.in_file_order-records.ensures.same (All-from_recursion HasFewItems c.args.records.items c.requires.few_items)
 
 pub returns : goal.returns
 returns c =

@@ -13,4 +13,4 @@ pub record Written (put : List ℕ → EditText → List ℕ) (source : List ℕ
 
 abbrev pub invariant-loop-edit : goal.invariant-loop-edit
 invariant-loop-edit l =
-    Written (put_text l.graph.records l.rec.items) l.rec.text l.from (drop l.edit-index l.edit-items) l.text.items (l.fn.text.items ++ body_text l.graph.records l.rec)
+    Written (put_text l.view l.m.0 l.rec.items) l.rec.text l.from (drop l.edit-index l.edit-items) l.text.items (l.fn.text.items ++ body_text l.view l.m.0 l.rec)

@@ -5,4 +5,4 @@ use Rattle.module_code.proofs.loads.add_loads.Given as goal
 
 abbrev pub invariant-loop-place : goal.invariant-loop-place
 invariant-loop-place l =
-    l.text.items ≡ l.fn.text.items ++ flat_map (numbered_load l.graph.records l.rec) (enumerate_from 0 (take l.place l.items))
+    l.text.items ≡ l.fn.text.items ++ flat_map (numbered_load l.view l.rec) (enumerate_from 0 (take l.place l.items))

@@ -3,7 +3,7 @@ use Rattle.std.proofs.lemmas.Result.{err_from_is_err_and}
 use Rattle.resolve_path.proofs.Finding.{answer_end}
 use Rattle.resolve_path.proofs.Keeping.{keeps_on}
 use Rattle.resolve_path.specs.Manifests.{manifests_of}
-use Rattle.resolve_path.specs.Places.{answer_of}
+use Rattle.resolve_path.specs.Places.{answer_among}
 use Rattle.resolve_path.specs.inner.Parts.{Decides}
 use Rattle.resolve_path.proofs.package.in_package.Goals as goal
 
@@ -36,7 +36,7 @@ returns-clause-told g c = λ tree told.
       keeps = keeps_on tree c.args.listing.now c.args.cache.now c.fetch.new.cache c.named_from.new.cache _ _ _ fetched.keeps found.keeps;
       is = λ of all reading is.
           answer_end c.named_from.result _ _
-          (ap (answer_of c.args.listing.now.files) (sym (subst (Decides c.args.listing.now.files (manifests_of reading tree) c.args.config.now c.args.kind c.args.folder.now c.args.rest.now) c.in-None.is
+          (ap (answer_among c.args.listing.now.files) (sym (subst (Decides c.args.listing.now.files (manifests_of reading tree) c.args.config.now c.args.kind c.args.folder.now c.args.rest.now) c.in-None.is
           (c.in_ok-decided.ensures.is (manifests_of reading tree) (sym (c.get-manifest.ensures ∙ fetched.is of all reading is))))))
           (found.is of (fetched.keeps.cache all) reading is);
     }

@@ -1,7 +1,7 @@
 use Rattle.std.proofs.Common.{ap, ◌∙◌}
 use Rattle.std.proofs.lemmas.Result.{err_from_is_err_and}
 use Rattle.resolve_path.specs.Folders.{folder_places}
-use Rattle.resolve_path.specs.Places.{answer_of}
+use Rattle.resolve_path.specs.Places.{answer_among}
 use Rattle.resolve_path.proofs.path.as_folder.Goals as goal
 
 pub returns-in_err-fetched-clause-told : goal.returns-in_err-fetched-clause-told
@@ -19,5 +19,5 @@ returns-clause-told g c = λ tree told.
     let fetched = c.in_ok-fetched.ensures.told tree told in
     record {
       keeps = fetched.keeps;
-      is = λ of all reading is. c.in_ok-in_folder.ensures.is ∙ ap (λ held. answer_of c.args.listing.now.files (folder_places c.args.config.now c.args.folder.now held)) (c.get.ensures ∙ fetched.is of all reading is);
+      is = λ of all reading is. c.in_ok-in_folder.ensures.is ∙ ap (λ held. answer_among c.args.listing.now.files (folder_places c.args.config.now c.args.folder.now held)) (c.get.ensures ∙ fetched.is of all reading is);
     }

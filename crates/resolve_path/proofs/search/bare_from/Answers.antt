@@ -4,7 +4,7 @@ use Rattle.path_text.specs.Path.{IsFolderPath}
 use Rattle.resolve_path.proofs.Asking.{package_is}
 use Rattle.resolve_path.proofs.Finding.{answer_end}
 use Rattle.resolve_path.specs.Manifests.{manifests_of}
-use Rattle.resolve_path.specs.Places.{answer_of}
+use Rattle.resolve_path.specs.Places.{answer_among}
 use Rattle.resolve_path.specs.inner.Parts.{is_listed}
 use Rattle.resolve_path.proofs.search.bare_from.Goals as goal
 
@@ -18,7 +18,7 @@ returns-clause-told g c = λ tree told.
       keeps = found.keeps;
       is = λ of all reading is.
           answer_end c.in_package.result _ _
-          (ap (answer_of c.args.listing.now.files)
+          (ap (answer_among c.args.listing.now.files)
           (package_is (manifests_of reading tree) (is_listed c.args.listing.now.folders) c.args.config.now c.args.kind c.args.base.now c.args.request.now
           c.in-Some.asked c.get-2.result.now c.get.result.now c.get-rest.result.now c.get.ensures c.get-rest.ensures
           (sym c.in-Some.is ∙ c.in_ok-asked.ensures) (ap Some c.get-2.ensures ∙ sym c.in-Some-2.is ∙ c.in_ok-home.ensures.is)))

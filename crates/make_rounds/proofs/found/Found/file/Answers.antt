@@ -2,7 +2,7 @@ use Rattle.std.proofs.Common.{◌≡◌, ◌<◌, map, length, get_or, sym, ap, 
 use Rattle.std.proofs.lemmas.List.{get_or-map, length-map}
 use Rattle.fault_place.specs.declared.number.FileId.{FileId}
 use Rattle.make_rounds.specs.inner.Found.{Finding}
-use Rattle.make_rounds.proofs.Lists.{all-at}
+use Rattle.module_build.proofs.Lists.{all-at}
 use Rattle.make_rounds.proofs.found.Found.file.Goals as goal
 
 pub returns-clause-within : goal.returns-clause-within

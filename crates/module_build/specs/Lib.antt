@@ -1,0 +1,16 @@
+pub use Rattle.graph_types.specs.Fits
+pub use Rattle.module_parse.specs.Bare
+pub use Rattle.module_parse.specs.Parsed
+pub use Rattle.outside.specs.Logs
+pub use Rattle.outside.specs.Views
+pub use Rattle.resolve_path.specs.Caches
+pub use Rattle.resolve_path.specs.Resolution
+pub use Rattle.tree_listing.specs.Listing
+pub mod Answers
+pub mod Build
+pub mod inner
+pub mod Merged
+pub mod Readings
+pub mod Reads
+pub mod Record
+pub mod Shape

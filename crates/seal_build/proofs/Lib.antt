@@ -1,0 +1,14 @@
+pub mod Bytes
+pub mod Closing
+pub mod Ending
+pub mod FinalServing
+pub mod Fitting
+pub mod Grouping
+pub mod Growing
+pub mod Lossless
+pub mod OneOutcome
+pub mod Placing
+pub mod Preparing
+pub mod Serving
+pub mod Shaped
+pub mod Written

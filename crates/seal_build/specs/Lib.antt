@@ -1,0 +1,13 @@
+pub use Rattle.chunk_graph.specs.Chunks
+pub use Rattle.chunk_groups.specs.Answer
+pub use Rattle.chunk_groups.specs.ChunkGroups
+pub use Rattle.chunk_groups.specs.Grouped
+pub use Rattle.chunk_groups.specs.Serving
+pub use Rattle.graph_types.specs.Fits
+pub use Rattle.graph_types.specs.Modules
+pub mod Assets
+pub mod Ends
+pub mod Final
+pub mod inner
+pub mod Seal
+pub mod Served
