@@ -3,16 +3,28 @@
 import { findBrowser } from './browser.mjs';
 import { checkProject } from './built.mjs';
 import { checkProgram } from './command.mjs';
+import { Browser } from './devtools.mjs';
 import { checkEnds } from './ends.mjs';
 import { checkInstall } from './install.mjs';
 import { checkLazy } from './lazy.mjs';
 import { checkLoading } from './loading.mjs';
+import { checkNetwork } from './network.mjs';
 import { checkPackages } from './packages.mjs';
 import { checkPlaces } from './places.mjs';
 import { projects } from './projects.mjs';
 import { checkRelease } from './release.mjs';
 import { Tally } from './tally.mjs';
 import { checkWords } from './words.mjs';
+
+// What is asked of one browser, page after page.
+async function checkPages(tally, program) {
+  const browser = program && new Browser(program);
+  try {
+    await checkNetwork(tally, browser);
+  } finally {
+    await browser?.close();
+  }
+}
 
 const tally = new Tally();
 const browser = findBrowser();
@@ -22,6 +34,7 @@ if (tally.failed === 0) {
   for (const { name, make } of projects) await checkProject(tally, name, make(), browser);
   await checkLoading(tally);
   await checkLazy(tally);
+  await checkPages(tally, browser);
   await checkPackages(tally);
   await checkEnds(tally);
   await checkWords(tally);
