@@ -1,0 +1,114 @@
+// The page: its head with search and file picker, a tab for each way to look at the build, and what is chosen.
+import { Build } from './build.mjs';
+import { ChunksPanel } from './chunks_panel.mjs';
+import { Details } from './details.mjs';
+import { button, element } from './elements.mjs';
+import { NotesPanel } from './notes_panel.mjs';
+import { SharedPanel } from './shared_panel.mjs';
+import { bytes, count } from './sizes.mjs';
+import { SplitsPanel } from './splits_panel.mjs';
+import { Tabs } from './tabs.mjs';
+
+export class Page {
+  constructor(root, { pick }) {
+    this.build = null;
+    this.query = '';
+    this.summary = element('p', { className: 'summary' });
+    this.problem = element('p', { className: 'problem', role: 'alert', hidden: true });
+    this.found = element('output', { className: 'found' });
+    this.search = element('input', { type: 'search', placeholder: 'Search modules', 'aria-label': 'Search modules by path', disabled: true });
+    this.search.addEventListener('input', () => this.find(this.search.value));
+    this.body = element('main');
+    root.append(this.head(pick), this.problem, this.body);
+  }
+
+  head(pick) {
+    const file = element('input', { type: 'file', accept: '.json,application/json', className: 'unseen', 'aria-label': 'stats.json of a build', tabIndex: -1 });
+    file.addEventListener('change', () => {
+      if (file.files.length > 0) pick(file.files[0]);
+      file.value = '';
+    });
+    const open = button('Open stats…', () => file.click());
+    return element('header', {}, element('h1', {}, 'Chunkpack build'), this.summary, this.search, this.found, open, file);
+  }
+
+  showProblem(sentence) {
+    this.problem.textContent = sentence;
+    this.problem.hidden = false;
+    if (!this.build) this.body.replaceChildren(invitation());
+  }
+
+  showStats(stats) {
+    const build = new Build(stats);
+    this.build = build;
+    this.loads = null;
+    this.problem.hidden = true;
+    this.search.disabled = false;
+    this.search.value = '';
+    this.query = '';
+    this.found.textContent = '';
+    this.choice = null;
+    const parts = [count(build.modules.length, 'module'), count(build.chunks.length, 'chunk'), count(build.groups.length, 'group'), count(build.splits.length, 'split'), bytes(build.size)];
+    this.summary.textContent = parts.join(' · ');
+    this.details = new Details(this);
+    this.tabs = new Tabs(this.tabList());
+    this.body.replaceChildren(this.tabs.list, element('div', { className: 'below' }, this.tabs.place, this.details.element));
+    this.tabs.open('Chunks');
+  }
+
+  tabList() {
+    const { build } = this;
+    return {
+      Chunks: { count: build.chunks.length, make: () => new ChunksPanel(this) },
+      Loads: { count: build.groups.length, make: async () => new (await this.loadsPart()).LoadsPanel(this) },
+      Splits: { count: build.splits.length, make: () => new SplitsPanel(this) },
+      'In several chunks': { count: build.shared.length, make: () => new SharedPanel(this) },
+      Notes: { count: build.notes.length, make: () => new NotesPanel(this) },
+    };
+  }
+
+  // What tells loads and reasons is loaded when it is first asked for.
+  async loadsPart() {
+    const part = await import(/* webpackChunkName: "loads" */ './loads_part.mjs');
+    this.loads ??= new part.Loads(this.build);
+    return part;
+  }
+
+  find(text) {
+    this.query = text.trim().toLowerCase();
+    const found = this.query === '' ? [] : this.build.modules.filter((module) => this.matches(module));
+    const size = found.reduce((sum, module) => sum + module.size, 0);
+    this.found.textContent = this.query === '' ? '' : `${count(found.length, 'module')} of ${this.build.modules.length.toLocaleString('en')}, ${bytes(size)}`;
+    this.tabs.tell((panel) => panel.find?.());
+  }
+
+  matches(module) {
+    return module.path.toLowerCase().includes(this.query);
+  }
+
+  // The test of a search, where there is one.
+  matcher() {
+    return this.query === '' ? null : (module) => this.matches(module);
+  }
+
+  // Chooses a module, perhaps in a chunk or a group, or a chunk, a group or a split alone.
+  choose(choice) {
+    this.choice = choice;
+    this.details.show(choice);
+    this.tabs.tell((panel) => panel.mark?.(choice));
+  }
+
+  // Lights a load history in the graph of loads.
+  async light(history, group) {
+    this.history = history;
+    this.choice = { ...this.choice, group };
+    await this.tabs.open('Loads');
+    this.tabs.tell((panel) => panel.light?.(history));
+  }
+}
+
+export function invitation() {
+  return element('section', { className: 'invitation' },
+    element('h2', {}, 'No build is shown'),
+    element('p', {}, 'Choose the stats.json of a build with “Open stats…”, or drop the file here. Chunkpack writes it into dist.'));
+}

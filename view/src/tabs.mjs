@@ -1,0 +1,53 @@
+// Tabs, each with a panel that is made when it is first opened. Arrow keys go from tab to tab.
+import { button, element } from './elements.mjs';
+
+export class Tabs {
+  constructor(tabs) {
+    this.tabs = tabs;
+    this.panels = new Map();
+    this.buttons = new Map(Object.entries(tabs).map(([name, { count }]) => [name, this.tabButton(name, count)]));
+    this.list = element('div', { className: 'tabs', role: 'tablist', 'aria-label': 'Ways to look at the build' }, ...this.buttons.values());
+    this.place = element('section', { className: 'panel', role: 'tabpanel' });
+    this.list.addEventListener('keydown', (event) => this.press(event));
+  }
+
+  tabButton(name, count) {
+    return button(`${name} (${count.toLocaleString('en')})`, () => this.open(name), { role: 'tab' });
+  }
+
+  press(event) {
+    const names = [...this.buttons.keys()];
+    const step = { ArrowRight: 1, ArrowLeft: -1 }[event.key];
+    if (!step) return;
+    const at = (names.indexOf(this.name) + step + names.length) % names.length;
+    this.open(names[at]);
+    this.buttons.get(names[at]).focus();
+    event.preventDefault();
+  }
+
+  async open(name) {
+    this.name = name;
+    for (const [other, tab] of this.buttons) {
+      tab.setAttribute('aria-selected', String(other === name));
+      tab.tabIndex = other === name ? 0 : -1;
+    }
+    this.place.setAttribute('aria-label', name);
+    if (!this.panels.has(name)) {
+      try {
+        // A panel that is loaded later leaves the place as it is until it is there.
+        const made = this.tabs[name].make();
+        this.panels.set(name, made instanceof Promise ? await made : made);
+      } catch (error) {
+        if (this.name === name) this.place.replaceChildren(element('p', { className: 'none' }, `This part of the page can’t be loaded (${error.message}).`));
+        return;
+      }
+    }
+    const panel = this.panels.get(name);
+    if (this.name === name && this.place.firstChild !== panel.element) this.place.replaceChildren(panel.element);
+    panel.shown?.();
+  }
+
+  tell(what) {
+    for (const panel of this.panels.values()) what(panel);
+  }
+}
