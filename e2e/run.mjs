@@ -12,8 +12,10 @@ import { checkNetwork } from './network.mjs';
 import { checkPackages } from './packages.mjs';
 import { checkPlaces } from './places.mjs';
 import { projects } from './projects.mjs';
+import { checkReasons } from './reasons.mjs';
 import { checkRelease } from './release.mjs';
 import { Tally } from './tally.mjs';
+import { checkView } from './view.mjs';
 import { checkWords } from './words.mjs';
 
 // What is asked of one browser, page after page.
@@ -21,6 +23,7 @@ async function checkPages(tally, program) {
   const browser = program && new Browser(program);
   try {
     await checkNetwork(tally, browser);
+    await checkView(tally, browser);
   } finally {
     await browser?.close();
   }
@@ -35,6 +38,7 @@ if (tally.failed === 0) {
   await checkLoading(tally);
   await checkLazy(tally);
   await checkPages(tally, browser);
+  await checkReasons(tally);
   await checkPackages(tally);
   await checkEnds(tally);
   await checkWords(tally);

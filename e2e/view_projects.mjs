@@ -28,21 +28,23 @@ export const shop = {
   'node_modules/tools/words.js': `exports.open = "[";\n${filling(1300)}`,
 };
 
-const AREAS = ['account', 'admin', 'billing', 'catalog', 'charts', 'editor', 'forms', 'inbox', 'maps', 'media', 'search', 'settings'];
+const AREAS = ['account', 'billing', 'catalog', 'charts', 'editor', 'inbox', 'search'];
 
-// Two entries, a dozen areas on demand, some of which load another, and a common library: `count` modules in all.
+// Two entries, areas on demand, each of which loads another, and a common library: `count` modules in all.
 export function large(count) {
+  const load = (area) => `self.${area} = () => import(/* webpackChunkName: "${area}" */ "./${area}/index.js");\n`;
   const files = {
-    'c.json': '{"entry":{"main":"./src/main.js","office":"./src/office.js"},"optimization":{"splitChunks":{"minSize":20000}}}',
-    'src/main.js': AREAS.map((area) => `self.${area} = () => import(/* webpackChunkName: "${area}" */ "./${area}/index.js");\n`).join(''),
-    'src/office.js': 'import "./common/0.js";\nself.billing = () => import(/* webpackChunkName: "billing" */ "./billing/index.js");\n',
+    'c.json': '{"entry":{"main":"./src/main.js","office":"./src/office.js"}}',
+    'src/main.js': AREAS.map(load).join(''),
+    'src/office.js': `import "./common/0.js";\n${load('billing')}`,
   };
   const next = numbers(7);
   const common = Math.floor(count / 10);
   for (let at = 0; at < common; at++) files[`src/common/${at}.js`] = commonText(at, common, next);
   const rest = count - common - 2;
+  const share = Math.floor(rest / AREAS.length);
   AREAS.forEach((area, place) => {
-    const size = Math.floor(rest / AREAS.length) + (place < rest % AREAS.length ? 1 : 0);
+    const size = share + (place < rest % AREAS.length ? 1 : 0);
     for (let at = 0; at < size; at++) files[areaFile(area, at)] = areaText(area, at, size, common, next);
   });
   return files;
@@ -53,7 +55,7 @@ function areaFile(area, at) {
 }
 
 function commonText(at, common, next) {
-  const targets = [2 * at + 1, 2 * at + 2].filter((target) => target < common && next(3) > 0);
+  const targets = [2 * at + 1, 2 * at + 2].filter((target) => target < common);
   return targets.map((target) => `import "./${target}.js";\n`).join('') + filling(100 + next(3000));
 }
 
@@ -81,3 +83,44 @@ export const failing = {
   'c.json': '{"entry":"./src/index.js"}',
   'src/index.js': 'import "./gone.js";\n',
 };
+
+// Small projects of each shape: a few modules that import and load one another, one or two entries, and names that loads share.
+export function small(seed) {
+  const next = numbers(seed);
+  const count = 2 + next(8);
+  const entries = next(2) === 0 ? { main: './0.js' } : { main: './0.js', other: `./${next(count)}.js` };
+  const files = { 'c.json': JSON.stringify({ entry: entries, optimization: { mergeDuplicateChunks: false, splitChunks: { minSize: 30 } } }) };
+  let loads = 14 - Object.keys(entries).length;
+  for (let at = 0; at < count; at++) {
+    const lines = [];
+    for (let left = next(4); left > 0; left--) {
+      const isLoad = next(2) === 0 && loads-- > 0;
+      const name = ['', '', '/* webpackChunkName: "a" */ ', '/* webpackChunkName: "b" */ '][next(4)];
+      lines.push(isLoad ? `import(${name}"./${next(count)}.js");\n` : `import "./${next(count)}.js";\n`);
+    }
+    files[`${at}.js`] = lines.join('');
+  }
+  return files;
+}
+
+// The stats of a build of so many modules, which the page shows as well as a real one's.
+export function statsOf(count) {
+  const next = numbers(11);
+  const chunkCount = 40;
+  const modules = Array.from({ length: count }, (_, id) => ({
+    blocks: id < chunkCount - 1 ? [id + 1] : [], id, path: `src/area${id % chunkCount}/folder${next(30)}/module${id}.js`, size: 50 + next(4000), sync: [id + chunkCount, id + 2 * chunkCount].filter((target) => target < count),
+  }));
+  const chunks = Array.from({ length: chunkCount }, (_, id) => {
+    const own = modules.filter((module) => module.id % chunkCount === id);
+    return { entry: id === 0, id, modules: own.map((module) => module.id), name: `area${id}`, no: id, size: own.reduce((sum, module) => sum + module.size, 0) };
+  });
+  return {
+    assets: chunks.map(({ id, name }) => ({ chunk: id, name: `${name}.js` })),
+    chunks,
+    groups: chunks.map(({ id, name }) => ({ chunks: [id], entry: id === 0, name, roots: [id] })),
+    modules,
+    notes: [],
+    splits: [],
+    version: 1,
+  };
+}

@@ -1,6 +1,6 @@
 // Paints boxes of a treemap in the colours of the page's style. Marks don't rest on colour alone: what is searched for has stripes and
 // an edge, what lies in several chunks a folded corner, and what is chosen a double frame.
-const LETTER = 6.4;
+const LETTERS = { heading: 7.4, plain: 6.4 };
 const TURN = 137.5;
 
 export class Brush {
@@ -59,7 +59,7 @@ export class Brush {
   // A text in a box, on a halo where something is drawn below it.
   write(text, { x, y, width, height }, font, halo = null) {
     if (height < 13 || width < 28) return;
-    const most = Math.floor((width - 8) / LETTER);
+    const most = Math.floor((width - 8) / LETTERS[font]);
     this.context.font = this.fonts[font];
     const shown = text.length > most ? `${text.slice(0, most - 1)}…` : text;
     const place = [x + 4, y + Math.min(height / 2, 12)];

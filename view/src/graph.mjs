@@ -70,8 +70,9 @@ export class Graph {
 
   line({ from, to, home, isLit }) {
     const told = `${this.build.groups[from].title} loads ${this.build.groups[to].title} by import() in ${this.build.modules[home].path}`;
-    const d = lineOf(this.places.get(from), this.places.get(to));
-    return drawn('path', { d, class: isLit ? 'line lit' : 'line', 'marker-end': `url(#${isLit ? 'lit' : 'plain'}-head)` }, drawn('title', {}, told));
+    const [start, end] = [this.places.get(from), this.places.get(to)];
+    const kinds = ['line', isLit ? 'lit' : '', end.column > start.column ? '' : 'back'];
+    return drawn('path', { d: lineOf(start, end), class: kinds.join(' '), 'marker-end': `url(#${isLit ? 'lit' : 'plain'}-head)` }, drawn('title', {}, told));
   }
 
   lineName({ from, to, home, isLit }) {

@@ -2,7 +2,7 @@
 import { treeOfShared } from './chunk_tree.mjs';
 import { element } from './elements.mjs';
 import { Rows } from './rows.mjs';
-import { bytes, listed } from './sizes.mjs';
+import { bytes, count } from './sizes.mjs';
 import { Treemap } from './treemap.mjs';
 
 export class SharedPanel {
@@ -25,7 +25,7 @@ export class SharedPanel {
     this.list.show(modules.map((module) => ({
       key: module.number,
       name: module.path,
-      note: `${bytes(added(module))} more: ${listed(module.chunks.map((chunk) => chunk.title), 4)}`,
+      note: `in ${count(module.chunks.length, 'chunk')}, ${bytes(added(module))} more`,
       choose: () => this.page.choose({ module }),
     })));
     this.map.draw();

@@ -31,20 +31,24 @@ export class Tabs {
       tab.setAttribute('aria-selected', String(other === name));
       tab.tabIndex = other === name ? 0 : -1;
     }
+    const panel = await this.panel(name);
+    // Another tab may have been opened while this one's part was loaded.
+    if (this.name !== name) return;
     this.place.setAttribute('aria-label', name);
+    if (this.place.firstChild !== panel.element) this.place.replaceChildren(panel.element);
+    panel.shown?.();
+  }
+
+  async panel(name) {
     if (!this.panels.has(name)) {
       try {
-        // A panel that is loaded later leaves the place as it is until it is there.
-        const made = this.tabs[name].make();
-        this.panels.set(name, made instanceof Promise ? await made : made);
+        const made = await this.tabs[name].make();
+        if (!this.panels.has(name)) this.panels.set(name, made);
       } catch (error) {
-        if (this.name === name) this.place.replaceChildren(element('p', { className: 'none' }, `This part of the page can’t be loaded (${error.message}).`));
-        return;
+        return { element: element('p', { className: 'none' }, `This part of the page can’t be loaded (${error.message}).`) };
       }
     }
-    const panel = this.panels.get(name);
-    if (this.name === name && this.place.firstChild !== panel.element) this.place.replaceChildren(panel.element);
-    panel.shown?.();
+    return this.panels.get(name);
   }
 
   tell(what) {

@@ -1,0 +1,131 @@
+// The reasons that the page tells are those of the proved call: crates/runs_groups, where it is built, reads graphs and prints for each
+// group the modules that are placed in it, each with its load history. It takes 16 modules and 16 groups, so a larger graph is handed
+// to it with the modules that load and one other, and a group's reach in place of its roots.
+import assert from 'node:assert/strict';
+import { spawnSync } from 'node:child_process';
+import fs from 'node:fs';
+import path from 'node:path';
+import { chunkpack, projectOf, repository } from './command.mjs';
+import { large, shop, small } from './view_projects.mjs';
+import { Build } from '../view/src/build.mjs';
+import { Loads } from '../view/src/loads.mjs';
+import { whyPlaced } from '../view/src/reasons.mjs';
+
+const PROGRAM = path.join(repository, 'crates', 'runs_groups', 'out', 'runs_groups');
+const MOST = 16;
+const SMALL_PROJECTS = 60;
+
+function statsOf(files) {
+  const folder = projectOf(files);
+  const { status, printed } = chunkpack(folder, ['build', 'c.json']);
+  assert.equal(status, 0, printed);
+  return JSON.parse(fs.readFileSync(path.join(folder, 'dist', 'stats.json'), 'utf8'));
+}
+
+// A line of the program's input: modules with what they import and the groups they load, and groups with roots.
+function lineOf(modules, groups) {
+  const blocks = groups.map(() => []);
+  let count = 0;
+  const words = modules.map(({ sync, loads }) => {
+    for (const group of loads) blocks[group].push(count++);
+    return `m:${[...sync.map((target) => `i${target}`), ...loads.map((group) => `l${groups[group].roots[0] ?? 0}`)].join(',')}`;
+  });
+  const told = groups.map(({ entry, roots }, number) => (entry ? `e:${roots}` : `g:${roots}/${blocks[number]}`));
+  return [...words, ...told].join(' ');
+}
+
+function wholeLine({ modules, groups }) {
+  return lineOf(modules.map(({ sync, blocks }) => ({ sync, loads: blocks })), groups);
+}
+
+// What a group reaches, searched for here by itself.
+function reached(modules, roots) {
+  const found = new Set(roots);
+  for (const number of found) modules[number].sync.forEach((target) => found.add(target));
+  return found;
+}
+
+// The modules that load, those that the same groups reach as one, and one module more, which is the last.
+function condensedLine({ modules, groups }, reaches, asked) {
+  const signature = (number) => reaches.map((reach) => Number(reach.has(number))).join('');
+  const homes = new Map();
+  for (const [number, { blocks }] of modules.entries()) {
+    if (blocks.length === 0) continue;
+    const key = signature(number);
+    homes.set(key, [...(homes.get(key) ?? []), ...blocks]);
+  }
+  const keys = [...homes.keys(), signature(asked)];
+  assert.ok(keys.length <= MOST && groups.length <= MOST);
+  const kept = [...homes.values(), []].map((loads) => ({ sync: [], loads }));
+  const roots = (group) => [...keys.keys()].filter((at) => keys[at][group] === '1');
+  return { line: lineOf(kept, groups.map(({ entry }, group) => ({ entry, roots: roots(group) }))), last: kept.length - 1 };
+}
+
+// The program's reasons for each line: by group, the load history of each module.
+function reasonsOf(lines) {
+  const ran = spawnSync(PROGRAM, [], { input: lines.map((line) => `${line}\n`).join(''), encoding: 'utf8', maxBuffer: 1 << 28 });
+  assert.equal(ran.status, 0, ran.stderr);
+  const answers = ran.stdout.trimEnd().split('\n');
+  assert.equal(answers.length, lines.length);
+  return answers.map((answer) => answer.split('; ').filter((part) => part.trim() !== '').map((part) => {
+    assert.match(part, /^\d+: has.* since/, 'the line is in range');
+    const told = part.slice(part.indexOf(' since'));
+    return new Map([...told.matchAll(/(\d+)\(([\d ]*)\)/g)].map(([, module, members]) => [Number(module), members.trim().split(' ').map(Number)]));
+  }));
+}
+
+// All reasons that the page tells, by group.
+function pageReasons(stats) {
+  const build = new Build(stats);
+  const loads = new Loads(build);
+  return stats.groups.map((_, group) => stats.modules.map((_, module) => whyPlaced(loads, group, module)));
+}
+
+function agreeOnWhole(all) {
+  const told = reasonsOf(all.map(wholeLine));
+  let pairs = 0;
+  for (const [at, stats] of all.entries()) {
+    for (const [group, reasons] of pageReasons(stats).entries()) {
+      for (const [module, reason] of reasons.entries()) {
+        assert.deepEqual(reason, told[at][group].get(module) ?? null, `${wholeLine(stats)}: module ${module} in group ${group}`);
+        pairs++;
+      }
+    }
+  }
+  return pairs;
+}
+
+function smallAgree() {
+  const all = [];
+  for (let seed = 1; all.length < SMALL_PROJECTS; seed++) all.push(statsOf(small(seed)));
+  assert.ok(all.some((stats) => stats.groups.length > 5), 'some have many groups');
+  assert.ok(pageReasons(all[0]).length > 0 && agreeOnWhole(all) > 1000);
+}
+
+// Modules that the same groups reach have the same reasons, and each kind of them is asked for once.
+function largeAgrees() {
+  const stats = statsOf(large(2000));
+  assert.equal(stats.modules.length, 2000);
+  const reaches = stats.groups.map((group) => reached(stats.modules, group.roots));
+  const lines = stats.modules.map((_, module) => condensedLine(stats, reaches, module));
+  const kinds = [...new Set(lines.map(({ line }) => line))];
+  const told = new Map(reasonsOf(kinds).map((answer, at) => [kinds[at], answer]));
+  const reasons = pageReasons(stats);
+  for (const [module, { line, last }] of lines.entries()) {
+    for (const group of stats.groups.keys()) {
+      assert.deepEqual(reasons[group][module], told.get(line)[group].get(last) ?? null, `module ${module} in group ${group}`);
+    }
+  }
+}
+
+export async function checkReasons(tally) {
+  const runs = [
+    ['two entries with groups and splits', () => agreeOnWhole([statsOf(shop)])],
+    [`${SMALL_PROJECTS} small projects`, smallAgree],
+    ['2,000 modules', largeAgrees],
+  ];
+  for (const [name, body] of runs) {
+    if (fs.existsSync(PROGRAM)) await tally.check(`reasons of the page are those of the proved call: ${name}`, body);
+    else tally.skip(`reasons of the page are those of the proved call: ${name}`, 'crates/runs_groups is not built');
+  }
+}
