@@ -13,7 +13,7 @@ import { whyPlaced } from '../view/src/reasons.mjs';
 
 const PROGRAM = path.join(repository, 'crates', 'runs_groups', 'out', 'runs_groups');
 const MOST = 16;
-const SMALL_PROJECTS = 60;
+const SMALL_PROJECTS = 100;
 
 function statsOf(files) {
   const folder = projectOf(files);
@@ -81,25 +81,24 @@ function pageReasons(stats) {
   return stats.groups.map((_, group) => stats.modules.map((_, module) => whyPlaced(loads, group, module)));
 }
 
+// Counts the pairs of a group and a module for which both tell a reason, and those for which both tell none.
 function agreeOnWhole(all) {
   const told = reasonsOf(all.map(wholeLine));
-  let pairs = 0;
+  const counts = { placed: 0, not: 0 };
   for (const [at, stats] of all.entries()) {
     for (const [group, reasons] of pageReasons(stats).entries()) {
       for (const [module, reason] of reasons.entries()) {
         assert.deepEqual(reason, told[at][group].get(module) ?? null, `${wholeLine(stats)}: module ${module} in group ${group}`);
-        pairs++;
+        counts[reason ? 'placed' : 'not']++;
       }
     }
   }
-  return pairs;
+  return counts;
 }
 
 function smallAgree() {
-  const all = [];
-  for (let seed = 1; all.length < SMALL_PROJECTS; seed++) all.push(statsOf(small(seed)));
-  assert.ok(all.some((stats) => stats.groups.length > 5), 'some have many groups');
-  assert.ok(pageReasons(all[0]).length > 0 && agreeOnWhole(all) > 1000);
+  const { placed, not } = agreeOnWhole(Array.from({ length: SMALL_PROJECTS }, (_, seed) => statsOf(small(seed + 1))));
+  assert.ok(placed >= 4 * SMALL_PROJECTS && not >= SMALL_PROJECTS, `${placed} and ${not} pairs`);
 }
 
 // Modules that the same groups reach have the same reasons, and each kind of them is asked for once.

@@ -2,7 +2,7 @@
 // modules whose `import()` loads a group.
 export class Build {
   constructor(stats) {
-    this.modules = stats.modules.map((module, number) => ({ ...module, number, chunks: [], importers: [] }));
+    this.modules = stats.modules.map(({ path, size, sync, blocks }, number) => ({ number, path, size, sync, blocks, chunks: [], importers: [] }));
     this.byPath = new Map(this.modules.map((module) => [module.path, module]));
     this.chunks = chunksOf(stats);
     this.groups = groupsOf(stats, this.chunks);
@@ -19,13 +19,13 @@ export class Build {
       for (const number of chunk.modules) this.modules[number].chunks.push(chunk);
     }
     for (const module of this.modules) {
-      for (const target of new Set(module.sync)) this.modules[target].importers.push(module.number);
+      for (const target of module.sync) addOnce(this.modules[target].importers, module.number);
     }
   }
 
   linkGroups() {
     for (const module of this.modules) {
-      for (const group of new Set(module.blocks)) this.groups[group].homes.push(module.number);
+      for (const group of module.blocks) addOnce(this.groups[group].homes, module.number);
     }
     const titles = new Map();
     for (const group of this.groups) {
@@ -67,6 +67,11 @@ export class Build {
     const same = (other) => other.chunks.length === module.chunks.length && other.chunks.every((chunk, at) => chunk === module.chunks[at]);
     return this.modules.filter(same);
   }
+}
+
+// Numbers come in rising order, so one that is there already is the last.
+function addOnce(numbers, number) {
+  if (numbers[numbers.length - 1] !== number) numbers.push(number);
 }
 
 function chunksOf(stats) {

@@ -1,5 +1,5 @@
 // The trees that treemaps show: chunks, their folders and their modules by size. A node is `{ label, weight, inner, .. }`; a leaf
-// has a module in place of `inner`.
+// has a module in place of `inner`. Thousands of nodes are told of seldom, so their titles are made when they are asked for.
 import { kindOf } from './build.mjs';
 import { bytes, count } from './sizes.mjs';
 
@@ -15,15 +15,14 @@ export function treeOfShared(build) {
 }
 
 function treeOf(label, inner) {
-  return weighed({ label, title: label, key: label, depth: 0, inner });
+  return weighed({ label, depth: 0, inner });
 }
 
 function chunkNode(build, chunk) {
   const folder = newFolder('');
   for (const number of chunk.modules) file(folder, build.modules[number], chunk);
   const label = `${chunk.title} · ${kindOf(chunk)} · ${bytes(chunk.size)}`;
-  const title = `chunk ${chunk.title} (${kindOf(chunk)}), ${count(chunk.modules.length, 'module')}, ${bytes(chunk.size)}`;
-  return weighed({ label, title, key: `c${chunk.index}`, chunk, depth: 1, inner: innerOf(folder, chunk, 2, '') });
+  return weighed({ label, chunk, depth: 1, inner: innerOf(folder, chunk, 2, '') });
 }
 
 function newFolder(name) {
@@ -42,8 +41,7 @@ function file(folder, module, chunk) {
 }
 
 function leaf(module, chunk, label) {
-  const title = `${module.path}, ${bytes(module.size)}${module.chunks.length > 1 ? `, in ${module.chunks.length} chunks` : ''}`;
-  return { label, title, module, chunk, weight: Math.max(module.size, 1), inner: null };
+  return { label, module, chunk, weight: Math.max(module.size, 1), inner: null };
 }
 
 function innerOf(folder, chunk, depth, path) {
@@ -60,11 +58,17 @@ function folderNode(folder, chunk, depth, path) {
     name += `/${last.name}`;
   }
   const whole = `${path}${name}/`;
-  return weighed({ label: `${name}/`, title: `folder ${whole}`, key: `c${chunk.index} ${whole}`, chunk, depth, inner: innerOf(last, chunk, depth + 1, whole) });
+  return weighed({ label: `${name}/`, folder: whole, chunk, depth, inner: innerOf(last, chunk, depth + 1, whole) });
 }
 
 function weighed(node) {
   node.inner.sort((one, other) => other.weight - one.weight);
   node.weight = node.inner.reduce((sum, inner) => sum + inner.weight, 0);
   return node;
+}
+
+export function titleOf({ label, module, chunk, folder, weight }) {
+  if (module) return `${module.path}, ${bytes(module.size)}${module.chunks.length > 1 ? `, in ${module.chunks.length} chunks` : ''}`;
+  if (folder) return `folder ${folder}, ${bytes(weight)}, in chunk ${chunk.title}`;
+  return chunk ? `chunk ${chunk.title} (${kindOf(chunk)}), ${count(chunk.modules.length, 'module')}, ${bytes(chunk.size)}` : label;
 }

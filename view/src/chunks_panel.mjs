@@ -32,8 +32,7 @@ export class ChunksPanel {
   }
 
   moduleRow(module, chunk) {
-    const several = module.chunks.length > 1 ? `in ${module.chunks.length} chunks, ` : '';
-    return { key: `c${chunk.index} m${module.number}`, level: 1, name: module.path, note: several + bytes(module.size), choose: () => this.page.choose({ module, chunk }) };
+    return { key: `c${chunk.index} m${module.number}`, level: 1, name: module.path, get note() { return noteOf(module); }, choose: () => this.page.choose({ module, chunk }) };
   }
 
   mark({ module, chunk }) {
@@ -41,4 +40,8 @@ export class ChunksPanel {
     const place = chunk ?? module?.chunks[0];
     if (place) this.list.mark(module ? `c${place.index} m${module.number}` : `c${place.index}`);
   }
+}
+
+function noteOf(module) {
+  return `${module.chunks.length > 1 ? `in ${module.chunks.length} chunks, ` : ''}${bytes(module.size)}`;
 }

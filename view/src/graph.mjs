@@ -90,7 +90,7 @@ export class Graph {
     const kind = group.entry ? 'entry' : 'on demand';
     const box = drawn('g', { class: kinds.join(' '), transform: `translate(${x} ${y})`, 'data-group': number }, drawn('title', {}, this.told(number)),
       drawn('rect', { width: BOX.width, height: BOX.height, rx: group.entry ? 3 : 14 }),
-      drawn('text', { x: 12, y: 20, class: 'box-name' }, shortened(group.title, 20)),
+      drawn('text', { x: 12, y: 20, class: 'box-name' }, shortened(this.build.titleOf(group), 20)),
       drawn('text', { x: 12, y: 38, class: 'box-note' }, first),
       drawn('text', { x: 12, y: 54, class: 'box-note' }, `${kind}; later: ${later === 0 ? 'none' : count(later, 'group')}`));
     if (at >= 0 && this.history.length > 1) box.append(...badge(at + 1));

@@ -1,10 +1,10 @@
 // Places for the groups of a graph of loads: columns by how many loads lead to a group, entries first, and in a column near the groups
 // that load it.
-const WIDTH = 168;
+const WIDTH = 164;
 const HEIGHT = 66;
-const ACROSS = 72;
+const ACROSS = 68;
 const DOWN = 20;
-const MARGIN = 16;
+const MARGIN = 14;
 
 export const BOX = { width: WIDTH, height: HEIGHT };
 

@@ -11,6 +11,7 @@ export function groupDetails(page, number) {
   const kind = group.entry ? 'An entry: a page loads it by a script element.' : 'Loaded on demand.';
   const modules = new Rows(`Modules in the chunks of ${group.title}`);
   modules.show(moduleRows(page, group));
+  modules.fit(12);
   const link = ({ group: other, home }) => button(`${build.groups[other].title}, by import() in ${build.modules[home].path}`, () => page.choose({ group: other }));
   const loaders = loads.loaders[number].map((other) => ({ group: other, home: loads.homeOf(other, number) }));
   const chunkLink = (chunk) => button(`${chunk.title}, ${bytes(chunk.size)}`, () => page.choose({ chunk }));

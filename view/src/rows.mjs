@@ -27,6 +27,11 @@ export class Rows {
     this.draw();
   }
 
+  // Takes no more room than so many rows need.
+  fit(most) {
+    this.element.style.height = `${Math.min(Math.max(this.rows.length, 1), most) * HEIGHT + 2}px`;
+  }
+
   // Makes the row of this key the current one, without choosing it.
   mark(key) {
     const at = this.rows.findIndex((row) => row.key === key);

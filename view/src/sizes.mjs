@@ -1,15 +1,20 @@
 // Numbers as people read them.
+const WRITTEN = new Intl.NumberFormat('en');
 const STEPS = [[1e9, 'GB'], [1e6, 'MB'], [1e3, 'kB']];
+
+export function whole(number) {
+  return WRITTEN.format(number);
+}
 
 export function bytes(size) {
   const [step, unit] = STEPS.find(([step]) => size >= step) ?? [1, 'bytes'];
   const value = size / step;
-  return `${unit === 'bytes' || value >= 100 ? Math.round(value).toLocaleString('en') : value.toFixed(1)} ${unit}`;
+  return `${unit === 'bytes' || value >= 100 ? whole(Math.round(value)) : value.toFixed(1)} ${unit}`;
 }
 
 // A number with its word, as `1 chunk` and `3 chunks`.
 export function count(number, word) {
-  return `${number.toLocaleString('en')} ${number === 1 ? word : `${word}s`}`;
+  return `${whole(number)} ${number === 1 ? word : `${word}s`}`;
 }
 
 // Names in a sentence: `a, b and c`, or the first of them and how many more there are.

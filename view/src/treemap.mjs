@@ -1,8 +1,9 @@
 // A treemap on a canvas, so that many thousands of boxes need no elements. Arrow keys go from box to box, Enter chooses, `+` and a
 // click on a heading go into a chunk or folder, `-` and Escape go out again.
+import { Brush } from './brush.mjs';
+import { titleOf } from './chunk_tree.mjs';
 import { button, element } from './elements.mjs';
 import { layOut, nextLeaf, nodeAt } from './treemap_layout.mjs';
-import { Brush } from './brush.mjs';
 
 const HELP = 'Arrow keys move, Enter shows details, + goes into a chunk or folder, - goes out.';
 
@@ -97,7 +98,7 @@ export class Treemap {
   }
 
   tell(node) {
-    this.status.textContent = node ? node.title : HELP;
+    this.status.textContent = node ? titleOf(node) : HELP;
   }
 
   hover(event) {

@@ -14,6 +14,7 @@ export function whySection(page, { module, chunk, group }) {
   })));
   const shown = group ?? why.firstGroup(chunk);
   if (shown === undefined) return [element('p', {}, 'No group has it.')];
+  list.fit(4);
   list.mark(shown);
   tell(shown);
   return [element('h3', {}, 'Why is it there?'), list.element, told];
