@@ -62,10 +62,9 @@ export class Build {
     return { ...split, number, size, chunk: made, from: split.chunks.map((no) => this.chunks.find((chunk) => chunk.no === no)) };
   }
 
-  // The modules that lie in exactly the chunks of this one.
+  // The modules that lie in all chunks of this one, itself too.
   companionsOf(module) {
-    const same = (other) => other.chunks.length === module.chunks.length && other.chunks.every((chunk, at) => chunk === module.chunks[at]);
-    return this.modules.filter(same);
+    return this.modules.filter((other) => module.chunks.every((chunk) => other.chunks.includes(chunk)));
   }
 }
 

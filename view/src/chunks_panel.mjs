@@ -27,7 +27,8 @@ export class ChunksPanel {
     const modules = chunk.modules.map((number) => build.modules[number]).filter(this.page.matcher() ?? (() => true));
     if (modules.length === 0 && this.page.query !== '') return [];
     modules.sort((one, other) => other.size - one.size || one.number - other.number);
-    const heading = { key: `c${chunk.index}`, name: `${chunk.title} (${kindOf(chunk)})`, note: `${count(modules.length, 'module')}, ${bytes(chunk.size)}`, choose: () => this.page.choose({ chunk }) };
+    const size = modules.reduce((sum, module) => sum + module.size, 0);
+    const heading = { key: `c${chunk.index}`, name: `${chunk.title} (${kindOf(chunk)})`, note: `${count(modules.length, 'module')}, ${bytes(size)}`, choose: () => this.page.choose({ chunk }) };
     return [heading, ...modules.map((module) => this.moduleRow(module, chunk))];
   }
 

@@ -56,15 +56,19 @@ export class Details {
     const companions = this.page.build.companionsOf(module);
     const size = companions.reduce((sum, one) => sum + one.size, 0);
     return [...lines, element('p', {}, `No further split takes it out of these: within its bounds, no cache group asks for it. ${count(companions.length, 'module')} `
-      + `with ${bytes(size)} together ${companions.length === 1 ? 'lies' : 'lie'} in exactly these chunks; where minSize isn’t set, a split needs 20.0 kB.`)];
+      + `with ${bytes(size)} together ${companions.length === 1 ? 'lies' : 'lie'} in all of these chunks; where minSize isn’t set, a split needs 20.0 kB.`)];
   }
 
   showChunk(chunk) {
-    const split = this.page.build.splits.find((one) => one.chunk === chunk);
-    const entry = chunk.entry ? 'It begins an entry, with the runtime.' : 'It has what its group needs and doesn’t find there already.';
-    const origin = split ? `It was made by the split ${titleOf(split)}, ${servesOf(split)}.` : entry;
     this.fill(`Chunk ${chunk.title}`, element('p', {}, `${kindOf(chunk)}, ${chunk.file ?? 'no file'}, ${count(chunk.modules.length, 'module')}, ${bytes(chunk.size)}.`),
-      element('p', {}, origin), ...this.links('Loaded with the groups', chunk.groups, (group) => this.groupLink(group)));
+      element('p', {}, this.originOf(chunk)), ...this.links('Loaded with the groups', chunk.groups, (group) => this.groupLink(group)));
+  }
+
+  originOf(chunk) {
+    const split = this.page.build.splits.find((one) => one.chunk === chunk);
+    if (split?.reused) return `A split for the cache group ${split.group} left its modules to it alone: ${servesOf(split)}.`;
+    if (split) return `A split for the cache group ${split.group} made it: ${servesOf(split)}.`;
+    return chunk.entry ? 'It begins an entry, with the runtime.' : 'It has what its group needs and doesn’t find there already.';
   }
 
   showSplit(split) {

@@ -2,7 +2,7 @@
 // lines, so that it doesn't rest on colour.
 import { drawn, element } from './elements.mjs';
 import { BOX, columnsOf, drawnGroups, extentOf, lineOf, middleOf, placesOf } from './graph_layout.mjs';
-import { bytes, count } from './sizes.mjs';
+import { bytes, count, whole } from './sizes.mjs';
 
 const MOST_GROUPS = 150;
 const MOST_LINES = 500;
@@ -54,7 +54,7 @@ export class Graph {
     const names = links.filter((link) => link.isLit || links.length <= MOST_NAMES).map((link) => this.lineName(link));
     this.drawing.replaceChildren(arrowHeads(), ...lines, ...names, ...groups.map((group) => this.box(group)));
     const left = this.build.groups.length - groups.length;
-    if (left > 0) this.status.textContent = `${count(groups.length, 'group')} drawn; the list has ${left.toLocaleString('en')} more. ${HELP}`;
+    if (left > 0) this.status.textContent = `${count(groups.length, 'group')} drawn; the list has ${whole(left)} more. ${HELP}`;
   }
 
   linksAmong(groups) {

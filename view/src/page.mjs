@@ -5,7 +5,7 @@ import { Details } from './details.mjs';
 import { button, element } from './elements.mjs';
 import { NotesPanel } from './notes_panel.mjs';
 import { SharedPanel } from './shared_panel.mjs';
-import { bytes, count } from './sizes.mjs';
+import { bytes, count, whole } from './sizes.mjs';
 import { SplitsPanel } from './splits_panel.mjs';
 import { Tabs } from './tabs.mjs';
 
@@ -78,7 +78,7 @@ export class Page {
     this.query = text.trim().toLowerCase();
     const found = this.query === '' ? [] : this.build.modules.filter((module) => this.matches(module));
     const size = found.reduce((sum, module) => sum + module.size, 0);
-    this.found.textContent = this.query === '' ? '' : `${count(found.length, 'module')} of ${this.build.modules.length.toLocaleString('en')}, ${bytes(size)}`;
+    this.found.textContent = this.query === '' ? '' : `${count(found.length, 'module')} of ${whole(this.build.modules.length)}, ${bytes(size)}`;
     this.tabs.tell((panel) => panel.find?.());
   }
 

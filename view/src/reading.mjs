@@ -1,5 +1,6 @@
 // Reads the text of a `stats.json`. What can't be shown gets one sentence that says what is wrong.
 import { checkShape } from './shape.mjs';
+import { whole } from './sizes.mjs';
 import { Unreadable } from './unreadable.mjs';
 
 const VERSION = 1;
@@ -26,7 +27,7 @@ function valueOf(text) {
     return JSON.parse(text);
   } catch (error) {
     if (!breaksOff(text)) throw new Unreadable(`This is not JSON (${error.message}).`);
-    throw new Unreadable(`This file breaks off after ${text.length.toLocaleString('en')} characters, in the middle of its JSON. Copy it again, or build again.`);
+    throw new Unreadable(`This file breaks off after ${whole(text.length)} characters, in the middle of its JSON. Copy it again, or build again.`);
   }
 }
 

@@ -1,4 +1,5 @@
 // Whether an object has the lists of a build's stats, and whether the numbers in them name what is there.
+import { count } from './sizes.mjs';
 import { Unreadable } from './unreadable.mjs';
 
 const isText = (value) => typeof value === 'string';
@@ -49,7 +50,7 @@ function checkNumbers({ chunks, groups, modules, splits }) {
 function within(length, word) {
   return (number, place) => {
     if (Number.isInteger(number) && number >= 0 && number < length) return;
-    throw new Unreadable(`These stats don’t fit together: ${place} names the ${word} ${JSON.stringify(number)}, and there are ${length} ${word}s.`);
+    throw new Unreadable(`These stats don’t fit together: ${place} names the ${word} ${JSON.stringify(number)}, and they have ${count(length, word)}.`);
   };
 }
 

@@ -1,5 +1,6 @@
 // Tabs, each with a panel that is made when it is first opened. Arrow keys go from tab to tab.
 import { button, element } from './elements.mjs';
+import { whole } from './sizes.mjs';
 
 export class Tabs {
   constructor(tabs) {
@@ -12,7 +13,7 @@ export class Tabs {
   }
 
   tabButton(name, count) {
-    return button(`${name} (${count.toLocaleString('en')})`, () => this.open(name), { role: 'tab' });
+    return button(`${name} (${whole(count)})`, () => this.open(name), { role: 'tab' });
   }
 
   press(event) {
