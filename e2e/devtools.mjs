@@ -6,6 +6,9 @@ import path from 'node:path';
 import { temporaryFolder } from './command.mjs';
 
 const PATIENCE = 60_000;
+const KEY_CODES = {
+  Backspace: 8, Tab: 9, Enter: 13, Escape: 27, ' ': 32, End: 35, Home: 36, ArrowLeft: 37, ArrowUp: 38, ArrowRight: 39, ArrowDown: 40,
+};
 const FLAGS = ['--headless', '--no-sandbox', '--disable-gpu', '--disable-dev-shm-usage', '--no-first-run', '--disable-background-networking',
   '--disable-extensions', '--force-device-scale-factor=1', '--hide-scrollbars', '--remote-debugging-pipe'];
 
@@ -57,6 +60,7 @@ export class Browser {
   }
 
   refuseAll(error) {
+    this.gone = error;
     for (const { refuse } of this.asked.values()) refuse(error);
     this.asked.clear();
   }
@@ -69,7 +73,8 @@ export class Browser {
     else answer?.(message.result);
   }
 
-  ask(method, params = {}, sessionId = undefined) {
+  async ask(method, params = {}, sessionId = undefined) {
+    if (this.gone) throw this.gone;
     const id = ++this.count;
     const asked = new Promise((answer, refuse) => this.asked.set(id, { answer, refuse }));
     this.pipe.send({ id, method, params, sessionId });
@@ -128,7 +133,8 @@ export class BrowserPage {
 
   // The value of an expression in the page; a promise is awaited. What it throws is thrown here.
   async evaluate(expression) {
-    const { result, exceptionDetails } = await this.ask('Runtime.evaluate', { expression, awaitPromise: true, returnByValue: true, userGesture: true });
+    const { result, exceptionDetails } = await this.ask('Runtime.evaluate',
+      { expression, awaitPromise: true, returnByValue: true, userGesture: true });
     if (exceptionDetails) throw new Error(exceptionDetails.exception?.description ?? exceptionDetails.text);
     return result.value;
   }
@@ -165,5 +171,3 @@ export class BrowserPage {
     return this.browser.ask('Target.closeTarget', { targetId: this.target });
   }
 }
-
-const KEY_CODES = { Backspace: 8, Enter: 13, Escape: 27, Tab: 9, ArrowLeft: 37, ArrowUp: 38, ArrowRight: 39, ArrowDown: 40, Home: 36, End: 35, ' ': 32 };

@@ -14,7 +14,9 @@ const SHOP = {
   'c.json': JSON.stringify({
     entry: { shop: './src/shop.js', desk: './src/desk.js' },
     output: { filename: '[name].[contenthash:8].js', chunkFilename: 'c-[name].[contenthash:8].js', publicPath: '/dist/' },
-    optimization: { splitChunks: { chunks: 'all', minSize: 0, cacheGroups: { tools: { test: { inDir: 'node_modules' }, name: 'tools', priority: 5 } } } },
+    optimization: {
+      splitChunks: { chunks: 'all', minSize: 0, cacheGroups: { tools: { test: { inDir: 'node_modules' }, name: 'tools', priority: 5 } } },
+    },
   }),
   'src/shop.js': 'import { price } from "./price.js";\nself.told = ["shop " + price(1)];\n'
     + 'self.openCart = () => import(/* webpackChunkName: "cart" */ "./cart.js").then((cart) => cart.tell());\n'

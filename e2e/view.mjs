@@ -6,7 +6,7 @@ import fs from 'node:fs';
 import path from 'node:path';
 import { pathToFileURL } from 'node:url';
 import { chunkpack, projectOf, repository, temporaryFolder } from './command.mjs';
-import { failing, large, shop, statsOf } from './view_projects.mjs';
+import { failing, large, shop, statsOfMany } from './view_projects.mjs';
 
 const VIEW = path.join(repository, 'bin', 'view');
 const MOST_ELEMENTS = 1_500;
@@ -56,7 +56,7 @@ class ViewPage {
 
   async tab(name) {
     await this.page.evaluate(`[...document.querySelectorAll('[role=tab]')].find((tab) => tab.innerText.startsWith(${JSON.stringify(name)})).click()`);
-    await this.page.until(`document.querySelector('[role=tabpanel]').getAttribute('aria-label') === ${JSON.stringify(name)} && document.querySelector('[role=tabpanel] .rows')`);
+    await this.page.until(`document.querySelector('[role=tabpanel]').getAttribute('aria-label') === ${JSON.stringify(name)}`);
   }
 
   async search(text) {
@@ -64,9 +64,12 @@ class ViewPage {
     await this.page.press(...(text === '' ? ['Backspace'] : text));
   }
 
-  // Clicks the row of a list that has this name.
-  choose(list, name) {
-    return this.page.evaluate(`[...document.querySelectorAll(${JSON.stringify(`${list} .row`)})].find((row) => row.firstChild.innerText === ${JSON.stringify(name)}).click()`);
+  // Clicks the row of a list that has this name, when it is drawn.
+  async choose(list, name) {
+    const rows = `[...document.querySelectorAll(${JSON.stringify(`${list} .row`)})]`;
+    const row = `${rows}.find((row) => row.firstChild.innerText === ${JSON.stringify(name)})`;
+    await this.page.until(row);
+    await this.page.evaluate(`${row}.click()`);
   }
 
   // Takes a file by the file picker.
@@ -106,8 +109,8 @@ function inWords(number, word) {
 }
 
 // The numbers at the head are those of the stats.
-async function checkSummary(view, { modules, chunks, groups, splits }) {
-  const told = [inWords(modules.length, 'module'), inWords(chunks.length, 'chunk'), inWords(groups.length, 'group'), inWords(splits.length, 'split')].join(' · ');
+async function checkSummary(view, stats) {
+  const told = ['module', 'chunk', 'group', 'split'].map((word) => inWords(stats[`${word}s`].length, word)).join(' · ');
   const summary = await view.text('.summary');
   assert.ok(summary.startsWith(`${told} · `), `${summary} is not ${told}`);
 }
@@ -115,9 +118,9 @@ async function checkSummary(view, { modules, chunks, groups, splits }) {
 // Each tab has a picture and a list, and in both schemes a screenshot is taken.
 async function showsAllTabs(view, name, stats) {
   const several = stats.modules.filter((module) => stats.chunks.filter((chunk) => chunk.modules.includes(module.id)).length > 1);
-  assert.deepEqual(await view.texts('[role=tab]'), [`Chunks (${stats.chunks.length})`, `Loads (${stats.groups.length})`, `Splits (${stats.splits.length})`,
-    `In several chunks (${several.length})`, `Notes (${stats.notes.length})`]);
-  for (const tab of ['Chunks', 'Loads', 'Splits', 'In several chunks', 'Notes']) {
+  const tabs = { Chunks: stats.chunks, Loads: stats.groups, Splits: stats.splits, 'In several chunks': several, Notes: stats.notes };
+  assert.deepEqual(await view.texts('[role=tab]'), Object.entries(tabs).map(([tab, { length }]) => `${tab} (${length})`));
+  for (const tab of Object.keys(tabs)) {
     await view.tab(tab);
     await view.shoot(`${name}-${tab.toLowerCase().replaceAll(' ', '-')}`);
   }
@@ -228,7 +231,7 @@ async function showsLarge(browser, { index, stats }, scheme) {
 // As many modules as a large application has, taken by the file picker.
 async function showsMany(browser, { index }) {
   const file = path.join(temporaryFolder(), 'stats.json');
-  fs.writeFileSync(file, JSON.stringify(statsOf(MANY)));
+  fs.writeFileSync(file, JSON.stringify(statsOfMany(MANY)));
   await withPage(browser, index, 'light', async (view) => {
     await view.pictured();
     await view.pick(file);
@@ -303,8 +306,11 @@ async function takesDroppedFiles(browser, { stats }) {
   assert.equal(viewOf(folder).status, 0);
   await withPage(browser, path.join(folder, 'dist', 'view', 'index.html'), 'dark', async (view) => {
     assert.match(await view.problem(), /stats\.json: This (file breaks off|is not JSON)/);
-    const drop = (file) => view.page.evaluate(`{ const dropped = new DataTransfer(); dropped.items.add(${file}); dispatchEvent(new DragEvent("drop", { dataTransfer: dropped })); }`);
-    await drop(`new File([${JSON.stringify(text)}], "stats.json")`);
+    await view.page.evaluate(`{
+      const dataTransfer = new DataTransfer();
+      dataTransfer.items.add(new File([${JSON.stringify(text)}], "stats.json"));
+      dispatchEvent(new DragEvent("drop", { dataTransfer }));
+    }`);
     await view.page.until('document.querySelector(".problem").hidden');
     await view.pictured();
     await checkSummary(view, stats);

@@ -10,14 +10,22 @@ function filling(bytes) {
 export const shop = {
   'c.json': JSON.stringify({
     entry: { shop: './src/shop.js', desk: './src/desk.js' },
-    optimization: { splitChunks: { minSize: 3000, cacheGroups: { tools: { test: { inDir: 'node_modules' }, name: 'tools', chunks: 'all', priority: 5 } } } },
+    optimization: {
+      splitChunks: { minSize: 3000, cacheGroups: { tools: { test: { inDir: 'node_modules' }, name: 'tools', chunks: 'all', priority: 5 } } },
+    },
   }),
-  'src/shop.js': 'import { price } from "./lib/price.js";\nself.shop = price(1);\nself.open = () => [import(/* webpackChunkName: "cart" */ "./cart.js"), import("./help.js")];\n',
-  'src/desk.js': 'import { price } from "./lib/price.js";\nimport { table } from "./lib/table.js";\nself.desk = price(2) + table;\nself.report = () => import(/* webpackChunkName: "report" */ "./report.js");\n',
-  'src/cart.js': `import { format } from "tools";\nimport { grid } from "./lib/grid.js";\nexport const cart = format("cart") + grid;\nexport const pay = () => import(/* webpackChunkName: "pay" */ "./pay.js");\n${filling(1500)}`,
-  'src/pay.js': `import { format } from "tools";\nimport { table } from "./lib/table.js";\nimport { rules } from "./lib/rules.js";\nexport const pay = format("pay") + table + rules;\nexport const back = () => import("./help.js");\n${filling(2500)}`,
-  'src/help.js': 'import { table } from "./lib/table.js";\nimport { rules } from "./lib/rules.js";\nexport const help = "help" + table + rules;\nrequire("./missing.js");\n',
-  'src/report.js': `import { format } from "tools";\nimport { grid } from "./lib/grid.js";\nimport { rules } from "./lib/rules.js";\nexport const report = format("report") + grid + rules;\n${filling(900)}`,
+  'src/shop.js': 'import { price } from "./lib/price.js";\nself.shop = price(1);\n'
+    + 'self.open = () => [import(/* webpackChunkName: "cart" */ "./cart.js"), import("./help.js")];\n',
+  'src/desk.js': 'import { price } from "./lib/price.js";\nimport { table } from "./lib/table.js";\nself.desk = price(2) + table;\n'
+    + 'self.report = () => import(/* webpackChunkName: "report" */ "./report.js");\n',
+  'src/cart.js': 'import { format } from "tools";\nimport { grid } from "./lib/grid.js";\nexport const cart = format("cart") + grid;\n'
+    + `export const pay = () => import(/* webpackChunkName: "pay" */ "./pay.js");\n${filling(1500)}`,
+  'src/pay.js': 'import { format } from "tools";\nimport { table } from "./lib/table.js";\nimport { rules } from "./lib/rules.js";\n'
+    + `export const pay = format("pay") + table + rules;\nexport const back = () => import("./help.js");\n${filling(2500)}`,
+  'src/help.js': 'import { table } from "./lib/table.js";\nimport { rules } from "./lib/rules.js";\n'
+    + 'export const help = "help" + table + rules;\nrequire("./missing.js");\n',
+  'src/report.js': 'import { format } from "tools";\nimport { grid } from "./lib/grid.js";\nimport { rules } from "./lib/rules.js";\n'
+    + `export const report = format("report") + grid + rules;\n${filling(900)}`,
   'src/lib/price.js': `export const price = (count) => count * 3;\n${filling(700)}`,
   'src/lib/table.js': `export const table = "table";\n${filling(1100)}`,
   'src/lib/grid.js': `import { cell } from "./cell.js";\nexport const grid = cell;\n${filling(3600)}`,
@@ -104,15 +112,20 @@ export function small(seed) {
 }
 
 // The stats of a build of so many modules, which the page shows as well as a real one's.
-export function statsOf(count) {
+export function statsOfMany(count) {
   const next = numbers(11);
   const chunkCount = 40;
   const modules = Array.from({ length: count }, (_, id) => ({
-    blocks: id < chunkCount - 1 ? [id + 1] : [], id, path: `src/area${id % chunkCount}/folder${next(30)}/module${id}.js`, size: 50 + next(4000), sync: [id + chunkCount, id + 2 * chunkCount].filter((target) => target < count),
+    blocks: id < chunkCount - 1 ? [id + 1] : [],
+    id,
+    path: `src/area${id % chunkCount}/folder${next(30)}/module${id}.js`,
+    size: 50 + next(4000),
+    sync: [id + chunkCount, id + 2 * chunkCount].filter((target) => target < count),
   }));
   const chunks = Array.from({ length: chunkCount }, (_, id) => {
     const own = modules.filter((module) => module.id % chunkCount === id);
-    return { entry: id === 0, id, modules: own.map((module) => module.id), name: `area${id}`, no: id, size: own.reduce((sum, module) => sum + module.size, 0) };
+    const size = own.reduce((sum, module) => sum + module.size, 0);
+    return { entry: id === 0, id, modules: own.map((module) => module.id), name: `area${id}`, no: id, size };
   });
   return {
     assets: chunks.map(({ id, name }) => ({ chunk: id, name: `${name}.js` })),

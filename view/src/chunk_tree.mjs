@@ -10,7 +10,8 @@ export function treeOfChunks(build) {
 
 // Each module that lies in several chunks, weighed by what its copies add.
 export function treeOfShared(build) {
-  const leaves = build.shared.map((module) => ({ ...leaf(module, null, module.path.split('/').pop()), weight: Math.max(module.size, 1) * (module.chunks.length - 1) }));
+  const added = (module) => Math.max(module.size, 1) * (module.chunks.length - 1);
+  const leaves = build.shared.map((module) => ({ ...leaf(module, null, module.path.split('/').pop()), weight: added(module) }));
   return treeOf('Modules in several chunks', leaves);
 }
 

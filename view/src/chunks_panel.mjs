@@ -28,12 +28,14 @@ export class ChunksPanel {
     if (modules.length === 0 && this.page.query !== '') return [];
     modules.sort((one, other) => other.size - one.size || one.number - other.number);
     const size = modules.reduce((sum, module) => sum + module.size, 0);
-    const heading = { key: `c${chunk.index}`, name: `${chunk.title} (${kindOf(chunk)})`, note: `${count(modules.length, 'module')}, ${bytes(size)}`, choose: () => this.page.choose({ chunk }) };
+    const heading = { key: `c${chunk.index}`, name: `${chunk.title} (${kindOf(chunk)})`, note: `${count(modules.length, 'module')}, ${bytes(size)}` };
+    heading.choose = () => this.page.choose({ chunk });
     return [heading, ...modules.map((module) => this.moduleRow(module, chunk))];
   }
 
   moduleRow(module, chunk) {
-    return { key: `c${chunk.index} m${module.number}`, level: 1, name: module.path, get note() { return noteOf(module); }, choose: () => this.page.choose({ module, chunk }) };
+    const choose = () => this.page.choose({ module, chunk });
+    return { key: `c${chunk.index} m${module.number}`, level: 1, name: module.path, get note() { return noteOf(module); }, choose };
   }
 
   mark({ module, chunk }) {

@@ -1,16 +1,15 @@
 // What is chosen, in words: a module, a chunk, a group or a split, with buttons for what it has to do with.
 import { kindOf } from './build.mjs';
 import { button, element } from './elements.mjs';
+import { links } from './links.mjs';
 import { bytes, count, listed } from './sizes.mjs';
 import { servesOf, titleOf } from './splits_panel.mjs';
-
-const MOST_LINKS = 12;
 
 export class Details {
   constructor(page) {
     this.page = page;
     this.element = element('aside', { className: 'details', 'aria-label': 'Details', 'aria-live': 'polite' });
-    this.fill('Details', element('p', {}, 'Choose a module, a chunk, a group or a split to see what it is and why it is there.'));
+    this.fill('Details', paragraph('Choose a module, a chunk, a group or a split to see what it is and why it is there.'));
   }
 
   fill(heading, ...inner) {
@@ -19,10 +18,10 @@ export class Details {
   }
 
   show(choice) {
-    if (choice.module) return this.showModule(choice);
-    if (choice.chunk) return this.showChunk(choice.chunk);
-    if (choice.split) return this.showSplit(choice.split);
-    return this.showLater(choice, (part) => this.fill(...part.groupDetails(this.page, choice.group)));
+    if (choice.module) this.showModule(choice);
+    else if (choice.chunk) this.showChunk(choice.chunk);
+    else if (choice.split) this.showSplit(choice.split);
+    else this.showLater(choice, (part) => this.fill(...part.groupDetails(this.page, choice.group)));
   }
 
   // Shows what the later part of the page tells, unless something else has been chosen meanwhile.
@@ -42,26 +41,30 @@ export class Details {
     const targets = [...new Set(module.sync)].map((number) => modules[number]);
     const importers = module.importers.map((number) => modules[number]);
     const loads = [...new Set(module.blocks)].map((number) => groups[number]);
-    this.fill(module.path, element('p', {}, `Module ${module.number}, ${bytes(module.size)}.`), ...this.chunksOf(module), why,
-      ...this.links('Imports', targets, (one) => this.moduleLink(one)), ...this.links('Imported by', importers, (one) => this.moduleLink(one)),
-      ...this.links('Loads on demand', loads, (one) => this.groupLink(one)));
+    this.fill(module.path, paragraph(`Module ${module.number}, ${bytes(module.size)}.`), ...this.chunksOf(module), why,
+      ...links(`Imports (${targets.length})`, targets, (one) => this.moduleLink(one)),
+      ...links(`Imported by (${importers.length})`, importers, (one) => this.moduleLink(one)),
+      ...links(`Loads on demand (${loads.length})`, loads, (one) => this.groupLink(one)));
     this.showLater(choice, (part) => why.replaceChildren(...part.whySection(this.page, choice)));
   }
 
-  // The chunks of a module, and where there are several what they add up to.
+  // The chunks of a module, and where there are several what lies in all of them.
   chunksOf(module) {
     const { chunks } = module;
-    const lines = this.links(chunks.length > 1 ? `In ${count(chunks.length, 'chunk')}` : 'In one chunk', chunks, (chunk) => this.chunkLink(chunk));
+    const lines = links(`In ${chunks.length === 1 ? 'one chunk' : count(chunks.length, 'chunk')}`, chunks, (chunk) => this.chunkLink(chunk));
     if (chunks.length < 2) return lines;
     const companions = this.page.build.companionsOf(module);
     const size = companions.reduce((sum, one) => sum + one.size, 0);
-    return [...lines, element('p', {}, `No further split takes it out of these: within its bounds, no cache group asks for it. ${count(companions.length, 'module')} `
-      + `with ${bytes(size)} together ${companions.length === 1 ? 'lies' : 'lie'} in all of these chunks; where minSize isn’t set, a split needs 20.0 kB.`)];
+    const lie = companions.length === 1 ? 'lies' : 'lie';
+    return [...lines, paragraph('No further split takes it out of these: within its bounds, no cache group asks for it. '
+      + `${count(companions.length, 'module')} with ${bytes(size)} together ${lie} in all of these chunks; `
+      + 'where minSize isn’t set, a split needs 20.0 kB.')];
   }
 
   showChunk(chunk) {
-    this.fill(`Chunk ${chunk.title}`, element('p', {}, `${kindOf(chunk)}, ${chunk.file ?? 'no file'}, ${count(chunk.modules.length, 'module')}, ${bytes(chunk.size)}.`),
-      element('p', {}, this.originOf(chunk)), ...this.links('Loaded with the groups', chunk.groups, (group) => this.groupLink(group)));
+    const facts = [kindOf(chunk), chunk.file ?? 'no file', count(chunk.modules.length, 'module'), bytes(chunk.size)];
+    this.fill(`Chunk ${chunk.title}`, paragraph(`${facts.join(', ')}.`), paragraph(this.originOf(chunk)),
+      ...links('Loaded with the groups', chunk.groups, (group) => this.groupLink(group)));
   }
 
   originOf(chunk) {
@@ -72,18 +75,11 @@ export class Details {
   }
 
   showSplit(split) {
-    const { modules } = this.page.build;
-    const taken = split.modules.map((number) => modules[number]);
-    this.fill(`Split ${split.number + 1}`, element('p', {}, `${titleOf(split)}: ${count(taken.length, 'module')}, ${bytes(split.size)}, ${servesOf(split)}.`),
-      ...(split.chunk ? this.links('Chunk', [split.chunk], (chunk) => this.chunkLink(chunk)) : []),
-      ...this.links('Modules', taken, (module) => this.moduleLink(module)));
-  }
-
-  links(heading, things, link) {
-    if (things.length === 0) return [];
-    const more = things.length > MOST_LINKS ? [element('li', {}, `and ${things.length - MOST_LINKS} more`)] : [];
-    const shown = things.slice(0, MOST_LINKS).map((thing) => element('li', {}, link(thing)));
-    return [element('h3', {}, things.length > 1 ? `${heading} (${things.length})`.replace(/^(In \d+ chunks) .*/, '$1') : heading), element('ul', { className: 'links' }, ...shown, ...more)];
+    const taken = split.modules.map((number) => this.page.build.modules[number]);
+    const facts = [count(taken.length, 'module'), bytes(split.size), servesOf(split)];
+    this.fill(`Split ${split.number + 1}`, paragraph(`${titleOf(split)}: ${facts.join(', ')}.`),
+      ...links('Chunk', split.chunk ? [split.chunk] : [], (chunk) => this.chunkLink(chunk)),
+      ...links('Modules', taken, (module) => this.moduleLink(module)));
   }
 
   moduleLink(module) {
@@ -91,10 +87,15 @@ export class Details {
   }
 
   chunkLink(chunk) {
-    return button(`${chunk.title} (${kindOf(chunk)}, ${bytes(chunk.size)})`, () => this.page.choose({ chunk }), { title: `loaded with ${listed(chunk.groups.map((group) => group.title))}` });
+    const title = `loaded with ${listed(chunk.groups.map((group) => group.title))}`;
+    return button(`${chunk.title} (${kindOf(chunk)}, ${bytes(chunk.size)})`, () => this.page.choose({ chunk }), { title });
   }
 
   groupLink(group) {
     return button(group.title, () => this.page.choose({ group: group.number }));
   }
+}
+
+function paragraph(text) {
+  return element('p', {}, text);
 }

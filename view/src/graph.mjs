@@ -2,7 +2,7 @@
 // lines, so that it doesn't rest on colour.
 import { drawn, element } from './elements.mjs';
 import { BOX, columnsOf, drawnGroups, extentOf, lineOf, middleOf, placesOf } from './graph_layout.mjs';
-import { bytes, count, whole } from './sizes.mjs';
+import { bytes, count, listed, whole } from './sizes.mjs';
 
 const MOST_GROUPS = 150;
 const MOST_LINES = 500;
@@ -58,7 +58,8 @@ export class Graph {
   }
 
   linksAmong(groups) {
-    const links = groups.flatMap((from) => this.loads.later[from].filter((link) => this.places.has(link.group)).map((link) => ({ from, to: link.group, home: link.home, isLit: this.isStep(from, link.group) })));
+    const links = groups.flatMap((from) => this.loads.later[from].map(({ group: to, home }) => ({ from, to, home, isLit: this.isStep(from, to) })))
+      .filter(({ to }) => this.places.has(to));
     links.sort((one, other) => Number(other.isLit) - Number(one.isLit));
     // What is lit is drawn last, above the others.
     return links.slice(0, MOST_LINES).reverse();
@@ -72,7 +73,8 @@ export class Graph {
     const told = `${this.build.groups[from].title} loads ${this.build.groups[to].title} by import() in ${this.build.modules[home].path}`;
     const [start, end] = [this.places.get(from), this.places.get(to)];
     const kinds = ['line', isLit ? 'lit' : '', end.column > start.column ? '' : 'back'];
-    return drawn('path', { d: lineOf(start, end), class: kinds.join(' '), 'marker-end': `url(#${isLit ? 'lit' : 'plain'}-head)` }, drawn('title', {}, told));
+    const head = `url(#${isLit ? 'lit' : 'plain'}-head)`;
+    return drawn('path', { d: lineOf(start, end), class: kinds.join(' '), 'marker-end': head }, drawn('title', {}, told));
   }
 
   lineName({ from, to, home, isLit }) {
@@ -100,7 +102,8 @@ export class Graph {
   told(number) {
     const group = this.build.groups[number];
     const later = this.loads.later[number].map((link) => this.build.groups[link.group].title);
-    return `${group.title}, ${group.entry ? 'entry' : 'on demand'}: first ${count(group.chunks.length, 'chunk')}, ${bytes(group.size)}; later ${later.slice(0, 5).join(', ') || 'nothing'}`;
+    const first = `first ${count(group.chunks.length, 'chunk')}, ${bytes(group.size)}`;
+    return `${group.title}, ${group.entry ? 'entry' : 'on demand'}: ${first}; later ${listed(later) || 'nothing'}`;
   }
 
   click(event) {
@@ -134,7 +137,8 @@ export class Graph {
 }
 
 function arrowHeads() {
-  const head = (kind) => drawn('marker', { id: `${kind}-head`, class: `head ${kind}`, markerWidth: 9, markerHeight: 8, refX: 5, refY: 4, orient: 'auto', markerUnits: 'userSpaceOnUse' }, drawn('path', { d: 'M0 0L9 4L0 8z' }));
+  const size = { markerWidth: 9, markerHeight: 8, refX: 5, refY: 4, orient: 'auto', markerUnits: 'userSpaceOnUse' };
+  const head = (kind) => drawn('marker', { id: `${kind}-head`, class: `head ${kind}`, ...size }, drawn('path', { d: 'M0 0L9 4L0 8z' }));
   return drawn('defs', {}, head('plain'), head('lit'));
 }
 

@@ -3,6 +3,8 @@ import { invitation, Page } from './page.mjs';
 import { readStats } from './reading.mjs';
 import { Unreadable } from './unreadable.mjs';
 
+const NO_STATS = 'The folder has no stats.json: a build that ends with faults writes none. Build first, or choose another file.';
+
 const page = new Page(document.getElementById('page'), { pick: take });
 
 function show(text, name) {
@@ -46,7 +48,7 @@ function start() {
   listenForFiles();
   const { chunkpackStats: handed } = self;
   if (handed) show(handed.text, handed.name);
-  else if (handed === null) page.showProblem('The folder has no stats.json: a build that ends with faults writes none. Build first, or choose another file.');
+  else if (handed === null) page.showProblem(NO_STATS);
   else page.body.replaceChildren(invitation());
 }
 

@@ -19,9 +19,14 @@ export class LoadsPanel {
     const { build, loads } = this.page;
     const choose = () => this.page.choose({ group: group.number });
     const heading = { key: group.number, name: `${group.title} (${group.entry ? 'entry' : 'on demand'})`, note: bytes(group.size), choose };
-    const first = group.chunks.map((chunk) => ({ level: 1, name: `first: chunk ${chunk.title}`, note: bytes(chunk.size), choose: () => this.page.choose({ chunk }) }));
+    const first = group.chunks.map((chunk) => ({
+      level: 1, name: `first: chunk ${chunk.title}`, note: bytes(chunk.size), choose: () => this.page.choose({ chunk }),
+    }));
     const later = loads.later[group.number].map((link) => ({
-      level: 1, name: `later: ${build.groups[link.group].title}`, note: `from ${build.modules[link.home].path}`, choose: () => this.page.choose({ group: link.group }),
+      level: 1,
+      name: `later: ${build.groups[link.group].title}`,
+      note: `from ${build.modules[link.home].path}`,
+      choose: () => this.page.choose({ group: link.group }),
     }));
     return [heading, ...first, ...later];
   }

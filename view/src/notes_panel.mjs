@@ -22,7 +22,8 @@ export class NotesPanel {
     const shown = notes.filter((note) => note.path.toLowerCase().includes(this.page.query));
     this.list.show(shown.map((note) => {
       const module = byPath.get(note.path);
-      return { key: `${note.path} ${note.at}`, name: `${note.path}, byte ${note.at}`, note: textOf(note), choose: module && (() => this.page.choose({ module })) };
+      const choose = module && (() => this.page.choose({ module }));
+      return { key: `${note.path} ${note.at}`, name: `${note.path}, byte ${note.at}`, note: textOf(note), choose };
     }));
   }
 }

@@ -23,7 +23,8 @@ export class Page {
   }
 
   head(pick) {
-    const file = element('input', { type: 'file', accept: '.json,application/json', className: 'unseen', 'aria-label': 'stats.json of a build', tabIndex: -1 });
+    const file = element('input', { type: 'file', accept: '.json,application/json', className: 'unseen', tabIndex: -1 });
+    file.setAttribute('aria-label', 'stats.json of a build');
     file.addEventListener('change', () => {
       if (file.files.length > 0) pick(file.files[0]);
       file.value = '';
@@ -48,8 +49,8 @@ export class Page {
     this.query = '';
     this.found.textContent = '';
     this.choice = null;
-    const parts = [count(build.modules.length, 'module'), count(build.chunks.length, 'chunk'), count(build.groups.length, 'group'), count(build.splits.length, 'split'), bytes(build.size)];
-    this.summary.textContent = parts.join(' · ');
+    const counts = ['module', 'chunk', 'group', 'split'].map((word) => count(build[`${word}s`].length, word));
+    this.summary.textContent = [...counts, bytes(build.size)].join(' · ');
     this.details = new Details(this);
     this.tabs = new Tabs(this.tabList());
     this.body.replaceChildren(this.tabs.list, element('div', { className: 'below' }, this.tabs.place, this.details.element));

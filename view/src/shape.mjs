@@ -50,7 +50,8 @@ function checkNumbers({ chunks, groups, modules, splits }) {
 function within(length, word) {
   return (number, place) => {
     if (Number.isInteger(number) && number >= 0 && number < length) return;
-    throw new Unreadable(`These stats don’t fit together: ${place} names the ${word} ${JSON.stringify(number)}, and they have ${count(length, word)}.`);
+    const named = `${place} names the ${word} ${JSON.stringify(number)}`;
+    throw new Unreadable(`These stats don’t fit together: ${named}, and they have ${count(length, word)}.`);
   };
 }
 

@@ -28,7 +28,8 @@ export class SplitsPanel {
     const length = element('span', { className: 'length' });
     length.style.width = `${(100 * split.size) / most}%`;
     const heading = `${titleOf(split)}: ${count(split.modules.length, 'module')}, ${bytes(split.size)}`;
-    return element('div', { className: 'bar' }, button(heading, () => this.page.choose({ split })), element('span', { className: 'track' }, length), element('p', {}, servesOf(split)));
+    return element('div', { className: 'bar' }, button(heading, () => this.page.choose({ split })),
+      element('span', { className: 'track' }, length), element('p', {}, servesOf(split)));
   }
 
   find() {
@@ -41,17 +42,17 @@ export class SplitsPanel {
     if (modules.length === 0 && query !== '') return [];
     const heading = { key: `s${split.number}`, name: titleOf(split), note: bytes(split.size), choose: () => this.page.choose({ split }) };
     return [heading, ...modules.map((module) => ({
-      key: `s${split.number} m${module.number}`, level: 1, name: module.path, note: bytes(module.size), choose: () => this.page.choose({ module, chunk: split.chunk }),
+      key: `s${split.number} m${module.number}`,
+      level: 1,
+      name: module.path,
+      note: bytes(module.size),
+      choose: () => this.page.choose({ module, chunk: split.chunk }),
     }))];
   }
 
   mark({ split, module }) {
-    if (split) this.list.mark(`s${split.number}`);
-    else if (module) this.list.mark(`s${module.chunks[0] && this.splitThatMade(module)} m${module.number}`);
-  }
-
-  splitThatMade(module) {
-    return this.page.build.splits.find((split) => split.modules.includes(module.number))?.number;
+    const marked = split ?? (module && this.page.build.splits.find((one) => one.modules.includes(module.number)));
+    if (marked) this.list.mark(module ? `s${marked.number} m${module.number}` : `s${marked.number}`);
   }
 }
 
@@ -64,7 +65,7 @@ export function titleOf(split) {
 export function servesOf(split) {
   const from = split.from.filter((chunk) => chunk && chunk !== split.chunk).map((chunk) => chunk.title);
   const gone = split.from.filter((chunk) => !chunk).length;
-  const taken = [...from, ...(gone > 0 ? [`${count(gone, 'chunk')} that is not there any more`.replace('chunks that is', 'chunks that are')] : [])];
+  if (gone > 0) from.push(`${count(gone, 'chunk')} that later splits emptied`);
   const serves = split.chunk ? `; loaded with ${listed(split.chunk.groups.map((group) => group.title))}` : '';
-  return `taken out of ${listed(taken) || 'no other chunk'}${serves}`;
+  return `taken out of ${listed(from) || 'no other chunk'}${serves}`;
 }

@@ -79,8 +79,8 @@ export class Treemap {
   }
 
   showTrail() {
-    const steps = this.path.map((node, at) => button(node.depth === 0 ? node.label : node.label.split(' · ')[0], () => this.goOut(at), { disabled: at === this.path.length - 1 }));
-    this.trail.replaceChildren(...steps);
+    const last = this.path.length - 1;
+    this.trail.replaceChildren(...this.path.map((node, at) => button(node.label, () => this.goOut(at), { disabled: at === last })));
   }
 
   goOut(at) {

@@ -10,7 +10,10 @@ export function whySection(page, { module, chunk, group }) {
   const told = element('div', { className: 'reason' });
   const tell = (number) => told.replaceChildren(...why.told(number));
   list.show(why.groups.map((number) => ({
-    key: number, name: page.build.groups[number].title, get note() { return why.verdict(number); }, choose: () => page.choose({ module, chunk, group: number }),
+    key: number,
+    name: page.build.groups[number].title,
+    get note() { return why.verdict(number); },
+    choose: () => page.choose({ module, chunk, group: number }),
   })));
   const shown = group ?? why.firstGroup(chunk);
   if (shown === undefined) return [element('p', {}, 'No group has it.')];
@@ -61,7 +64,8 @@ class Why {
 
   foundThere(group) {
     const also = this.chunkIn(group) ? ` It lies in its chunk ${this.chunkIn(group).title} all the same, which it shares.` : '';
-    return `${group.title} needs ${this.module.path} and doesn’t have to bring it: in whatever order a page loads groups, one before ${group.title} has brought it.${also}`;
+    return `${group.title} needs ${this.module.path} and doesn’t have to bring it: `
+      + `in whatever order a page loads groups, one before ${group.title} has brought it.${also}`;
   }
 
   comesAlong(group) {
@@ -75,9 +79,10 @@ class Why {
     const earlier = history.slice(0, -1).map((number) => this.build.groups[number].title);
     const chunk = this.chunkIn(group);
     const place = chunk ? ` It does so in the chunk ${chunk.title}.` : '';
+    const needless = earlier.length === 1 ? `${earlier[0]} doesn’t need` : `None of ${listed(earlier)} needs`;
     const lack = earlier.length === 0
       ? `Nothing is loaded before it, so ${group.title} has to bring ${path}.`
-      : `${earlier.length === 1 ? `${earlier[0]} doesn’t need` : `None of ${listed(earlier)} needs`} ${path}, so it would be missing if ${group.title} didn’t bring it.`;
+      : `${needless} ${path}, so it would be missing if ${group.title} didn’t bring it.`;
     return [element('p', {}, `${group.title} needs ${path}. A page may load:`), element('ol', {}, ...steps), element('p', {}, lack + place)];
   }
 
