@@ -61,7 +61,8 @@ class ViewPage {
 
   async search(text) {
     await this.page.evaluate('document.querySelector("input[type=search]").focus(); document.querySelector("input[type=search]").select()');
-    await this.page.press(...(text === '' ? ['Backspace'] : text));
+    if (text === '') await this.page.press('Backspace');
+    else await this.page.ask('Input.insertText', { text });
   }
 
   // Clicks the row of a list that has this name, when it is drawn.
@@ -115,14 +116,14 @@ async function checkSummary(view, stats) {
   assert.ok(summary.startsWith(`${told} · `), `${summary} is not ${told}`);
 }
 
-// Each tab has a picture and a list, and in both schemes a screenshot is taken.
+// Each tab has as many things as the stats. All are pictured where the pictures are kept, and else the first.
 async function showsAllTabs(view, name, stats) {
   const several = stats.modules.filter((module) => stats.chunks.filter((chunk) => chunk.modules.includes(module.id)).length > 1);
   const tabs = { Chunks: stats.chunks, Loads: stats.groups, Splits: stats.splits, 'In several chunks': several, Notes: stats.notes };
   assert.deepEqual(await view.texts('[role=tab]'), Object.entries(tabs).map(([tab, { length }]) => `${tab} (${length})`));
   for (const tab of Object.keys(tabs)) {
     await view.tab(tab);
-    await view.shoot(`${name}-${tab.toLowerCase().replaceAll(' ', '-')}`);
+    if (tab === 'Chunks' || process.env.VIEW_SHOTS) await view.shoot(`${name}-${tab.toLowerCase().replaceAll(' ', '-')}`);
   }
   await view.tab('Chunks');
 }
