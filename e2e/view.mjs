@@ -5,7 +5,7 @@ import { spawnSync } from 'node:child_process';
 import fs from 'node:fs';
 import path from 'node:path';
 import { pathToFileURL } from 'node:url';
-import { chunkpack, projectOf, repository, temporaryFolder } from './command.mjs';
+import { chunkpack, command, projectOf, repository, temporaryFolder } from './command.mjs';
 import { failing, large, shop, statsOfMany } from './view_projects.mjs';
 
 const VIEW = path.join(repository, 'bin', 'view');
@@ -13,7 +13,8 @@ const MOST_ELEMENTS = 1_500;
 const MANY = 20_000;
 
 function viewOf(folder, words = []) {
-  const { status, stdout, stderr } = spawnSync(VIEW, words, { cwd: folder, encoding: 'utf8' });
+  const env = process.env.CHUNKPACK ? { ...process.env, CHUNKPACK: command } : process.env;
+  const { status, stdout, stderr } = spawnSync(VIEW, words, { cwd: folder, encoding: 'utf8', env });
   return { status, printed: stdout, told: stderr };
 }
 

@@ -57,7 +57,7 @@ export class SplitsPanel {
 }
 
 export function titleOf(split) {
-  const chunk = split.chunk ? `chunk ${split.chunk.title}` : 'a chunk that later splits emptied';
+  const chunk = split.chunk ? `chunk ${split.chunk.title}` : 'a chunk that is gone now';
   return `${split.group} → ${chunk}${split.reused ? ' (there before)' : ''}${split.forced ? ' (above enforceSizeThreshold)' : ''}`;
 }
 
@@ -65,7 +65,7 @@ export function titleOf(split) {
 export function servesOf(split) {
   const from = split.from.filter((chunk) => chunk && chunk !== split.chunk).map((chunk) => chunk.title);
   const gone = split.from.filter((chunk) => !chunk).length;
-  if (gone > 0) from.push(`${count(gone, 'chunk')} that later splits emptied`);
+  if (gone > 0) from.push(`${count(gone, 'chunk')} that ${gone === 1 ? 'is' : 'are'} gone now`);
   const serves = split.chunk ? `; loaded with ${listed(split.chunk.groups.map((group) => group.title))}` : '';
   return `taken out of ${listed(from) || 'no other chunk'}${serves}`;
 }
