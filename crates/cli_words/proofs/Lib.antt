@@ -1,3 +1,11 @@
+pub mod Answered
+pub mod Forms
+pub mod Holdings
 pub mod Jobs
 pub mod Lines
 pub mod Numbers
+pub mod Refusals
+pub mod Rows
+pub mod Spoilt
+pub mod Steps
+pub mod Walks

@@ -1,25 +1,15 @@
 -- What is taken word by word is what the grammar gives, and the other way round.
-use Rattle.std.proofs.Common.{◌≡◌, Bool, true, false, cond, ◌&&◌, List, [], ◌∷◌, ◌++◌, length, drop, codes, bytes_eq, nat_eq, Option, Some, None, refl, sym, ap, subst, ◌∙◌}
+use Rattle.std.proofs.Common.{◌≡◌, Bool, true, false, cond, List, [], ◌∷◌, ◌++◌, length, drop, codes, bytes_eq, nat_eq, Option, Some, None, refl, sym, ap, subst, ◌∙◌}
 use Rattle.std.proofs.lemmas.Bool.{and_parts, and_from}
 use Rattle.std.proofs.lemmas.Bool.Decides.{Decides-eqb}
 use Rattle.std.proofs.lemmas.List.{append-nil, append_assoc}
 use Rattle.std.proofs.lemmas.Slice.Eq.{bytes_eq-Decides, starts_is}
 use Rattle.std.specs.List.{flat_map, fold, list_all, starts_with}
 use Rattle.cli_words.specs.Words.{Argument, Gives, Word, is_argument, is_plain, positional, positional_of, spelled, spelled_end, value_of, words_behind, workers, workers_is}
-use Rattle.cli_words.specs.inner.Line.{Given, after_open, after_word, may_end, named_value, no_words, open_with, or_value, value_in}
-use Rattle.cli_words.specs.declared.line.Place.TheVariants as place
+use Rattle.cli_words.specs.inner.Line.{Given, after_open, after_word, behind_with, may_end, named_value, no_words, open_with, or_value, refused_with, value_in, value_with}
 use Rattle.cli_words.proofs.Numbers.{some_same}
 
 -- ---- where words stand that are no arguments
-
-abbrev value_with : List Word → List Word → Given
-value_with ps vs = record { positionals = ps; values = vs; place = place.Value }
-
-abbrev behind_with : List Word → List Word → Given
-behind_with ps vs = record { positionals = ps; values = vs; place = place.Behind }
-
-abbrev refused_with : List Word → List Word → Given
-refused_with ps vs = record { positionals = ps; values = vs; place = place.Refused }
 
 abbrev ended : Option (List Word) → List Word → List Word → Given
 ended None ps vs = open_with ps vs
@@ -29,7 +19,7 @@ all_behind : (words ps vs : List Word) → fold after_word (behind_with ps vs) w
 all_behind [] ps vs = ap (λ xs. behind_with xs vs) (sym (append-nil ps))
 all_behind (word ∷ words) ps vs = all_behind words (ps ++ word ∷ []) vs ∙ ap (λ xs. behind_with xs vs) (append_assoc ps (word ∷ []) words)
 
-refused_stays : (words ps vs : List Word) → fold after_word (refused_with ps vs) words ≡ refused_with ps vs
+pub refused_stays : (words ps vs : List Word) → fold after_word (refused_with ps vs) words ≡ refused_with ps vs
 refused_stays [] ps vs = refl
 refused_stays (word ∷ words) ps vs = refused_stays words ps vs
 
@@ -41,7 +31,7 @@ by_same word other true e plain option =
     sym plain ∙ ap is_plain same ∙ option
 by_same word other false e plain option = refl
 
-differs : (word other : Word) → is_plain word ≡ true → is_plain other ≡ false → bytes_eq word other ≡ false
+pub differs : (word other : Word) → is_plain word ≡ true → is_plain other ≡ false → bytes_eq word other ≡ false
 differs word other plain option = by_same word other (bytes_eq word other) refl plain option
 
 by_front : (word : Word) (b : Bool) → starts_with nat_eq word named_value ≡ b → cond b (Some (drop (length named_value) word)) None ≡ value_in word → (value : Word) → value_in word ≡ Some value → word ≡ named_value ++ value
@@ -58,12 +48,16 @@ no_value_by word (Some value) e plain =
     let bad : is_plain word ≡ false = ap is_plain (value_written word value e) in
     absurd (cc)
 
-plain_word : (word : Word) (ps vs : List Word) → is_plain word ≡ true → after_open (open_with ps vs) word ≡ open_with (ps ++ word ∷ []) vs
+pub plain_word : (word : Word) (ps vs : List Word) → is_plain word ≡ true → after_open (open_with ps vs) word ≡ open_with (ps ++ word ∷ []) vs
 plain_word word ps vs plain =
     let first = differs word (codes "--") plain refl in
     let second = differs word (codes "--workers") plain refl in
     let third = no_value_by word (value_in word) refl plain in
     rw (first, second) (ap (or_value (open_with ps vs) word) third ∙ rw plain refl)
+
+pub refused_word : (word : Word) (ps vs : List Word) → is_plain word ≡ false → bytes_eq word (codes "--") ≡ false → bytes_eq word (codes "--workers") ≡ false → value_in word ≡ None →
+    after_open (open_with ps vs) word ≡ refused_with ps vs
+refused_word word ps vs plain first second third = rw (first, second) (ap (or_value (open_with ps vs) word) third ∙ rw plain refl)
 
 -- ---- what the grammar gives is what is taken
 
@@ -176,8 +170,7 @@ module _ (word : Word) (words ps vs : List Word) (shown : Shown words) (shown_va
       subst GoalAt (sym (plain_word word ps vs plain))
       (λ done. positional_more word words ps vs _ plain (shown (ps ++ word ∷ []) vs done))
   at_plain false plain first second third =
-      let same : after_open (open_with ps vs) word ≡ refused_with ps vs = rw (first, second) (ap (or_value (open_with ps vs) word) third ∙ rw plain refl) in
-      subst GoalAt (sym same) (λ done. let bad : false ≡ true = sym (ap (λ given. may_end given.place) (refused_stays words ps vs)) ∙ done in absurd (cc))
+      subst GoalAt (sym (refused_word word ps vs plain first second third)) (λ done. let bad : false ≡ true = sym (ap (λ given. may_end given.place) (refused_stays words ps vs)) ∙ done in absurd (cc))
 
   at_value : (found : Option Word) → value_in word ≡ found → bytes_eq word (codes "--") ≡ false → bytes_eq word (codes "--workers") ≡ false → Goal word
   at_value (Some value) e first second =

@@ -1,6 +1,6 @@
 -- The words of a command (this project; `--` as in POSIX, Utility Conventions, 12.2, guideline 10).
 -- A word is the list of its bytes.
-use Rattle.std.specs.Prelude.{◌≡◌, ◌⊎◌, ℕ, Bool, true, not, ◌||◌, ◌==◌, List, [], ◌∷◌, ◌++◌, codes, bytes_eq, slice_index, IsTrue, Result, Ok, Err, MatchResult, Option, Some, None}
+use Rattle.std.specs.Prelude.{◌≡◌, ◌⊎◌, ℕ, Bool, true, not, ◌||◌, ◌==◌, List, [], ◌∷◌, ◌++◌, codes, bytes_eq, slice_index, IsTrue, Result, Ok, MatchResult, Option, Some, None}
 use Rattle.std.specs.List.{flat_map, list_all}
 use Rattle.path_text.specs.Path.{normal_of}
 use Rattle.cli_words.specs.Numbers.{IsNumber}

@@ -1,2 +1,4 @@
+pub mod Arguments
+pub mod Clap
 pub mod Line
 pub mod Reading

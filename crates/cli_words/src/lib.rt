@@ -4,9 +4,9 @@
 //! that all commands share. What stays true: words are refused exactly where they are in no row, and they are in at most one.
 #![tactic(auto)]
 
+mod arguments;
 mod job;
 pub mod laws;
-mod line;
 mod number;
 mod reading;
 mod words_end;

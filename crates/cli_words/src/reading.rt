@@ -1,9 +1,9 @@
 //! Words as the command that they name.
 ghost use Rattle.std.specs.Prelude.{◌≡◌, map, string_bytes, option_copied, IfOk};
 ghost use Rattle.cli_words.specs.Words.{AnswersWords};
-ghost use Rattle.cli_words.specs.inner.Reading.{build_of, job_in, job_of, named_job, only, sample_of, workers_of};
+ghost use Rattle.cli_words.specs.inner.Reading.{AnswersJob, build_of, job_with, named_job, sample_of, workers_in};
 
-use crate::line::{Line, read_line};
+use crate::arguments::{Arguments, read_arguments};
 use crate::number::number_of;
 use crate::{Job, WordsEnd};
 use fault_place::{NoMemory, Text};
@@ -27,39 +27,25 @@ pub fn read_words(alloc: Global, words: &[String]) -> Result<Job, WordsEnd>
 }
 
 fn read_job(alloc: Global, words: &[String]) -> Result<Option<Job>, NoMemory>
-    ensures { IfOk result (λ job. job ≡ job_of (map string_bytes words.now)) }
+    ensures { IfOk result (AnswersJob (map string_bytes words.now)) }
 {
     let [command, rest @ ..] = words else {
         return Ok(None);
     };
-    let line = read_line(alloc, rest)?;
-    job_in(alloc, command.as_str(), &line)
+    let Some(arguments) = read_arguments(alloc, rest)? else {
+        return Ok(None);
+    };
+    job_with(alloc, command.as_str(), arguments)
 }
 
 /// What a command's name and the words behind it ask for.
-fn job_in(alloc: Global, command: &str, line: &Line<'_>) -> Result<Option<Job>, NoMemory>
-    ensures { IfOk result (λ job. job ≡ job_in command.now line.now) }
+fn job_with(alloc: Global, command: &str, arguments: Arguments<'_>) -> Result<Option<Job>, NoMemory>
+    ensures { IfOk result (λ job. job ≡ job_with command.now arguments.entry.word.now (option_copied arguments.entry.workers)) }
 {
-    if !line.may_end() {
-        return Ok(None);
-    }
-    let Some(word) = only(&line.positionals) else {
+    let Some(workers) = workers_in(arguments.workers) else {
         return Ok(None);
     };
-    let Some(workers) = workers_of(&line.values) else {
-        return Ok(None);
-    };
-    named_job(alloc, command, word, workers)
-}
-
-/// The word, where there is one.
-fn only<'a>(words: &[&'a str]) -> Option<&'a str>
-    ensures { option_copied result ≡ only (map (λ word. word.now) words.now) }
-{
-    match words {
-        [word] => Some(word),
-        _ => None,
-    }
+    named_job(alloc, command, arguments.word, workers)
 }
 
 /// A row for each command.
@@ -99,13 +85,12 @@ fn sample(word: &str, workers: Option<u32>) -> Option<Job>
     Some(Job::Sample { n, workers })
 }
 
-/// The number of workers that the values of `--workers` give, where there is at most one and it is allowed.
-fn workers_of(values: &[&str]) -> Option<Option<u32>>
-    ensures { result ≡ workers_of (map (λ value. value.now) values.now) }
+/// The number of workers that a value of `--workers` gives, where it is allowed.
+fn workers_in(value: Option<&str>) -> Option<Option<u32>>
+    ensures { result ≡ workers_in (option_copied value.entry) }
 {
-    match values {
-        [] => Some(None),
-        [value] => Some(Some(number_of(value, 1, MOST_WORKERS)?)),
-        _ => None,
+    match value {
+        None => Some(None),
+        Some(value) => Some(Some(number_of(value, 1, MOST_WORKERS)?)),
     }
 }
