@@ -5,7 +5,7 @@ import assert from 'node:assert/strict';
 import { spawnSync } from 'node:child_process';
 import fs from 'node:fs';
 import path from 'node:path';
-import { chunkpack, projectOf, repository } from './command.mjs';
+import { programPath, projectOf, repository, run } from './command.mjs';
 import { large, shop, small } from './view_projects.mjs';
 import { Build } from '../view/src/build.mjs';
 import { Loads } from '../view/src/loads.mjs';
@@ -15,9 +15,10 @@ const PROGRAM = path.join(repository, 'crates', 'runs_groups', 'out', 'runs_grou
 const MOST = 16;
 const SMALL_PROJECTS = 100;
 
-function statsOf(files) {
+// The program is run by itself, since there are many projects.
+function statsOf(files, program = programPath()) {
   const folder = projectOf(files);
-  const { status, printed } = chunkpack(folder, ['build', 'c.json']);
+  const { status, printed } = run(program, ['build', 'c.json'], { cwd: folder });
   assert.equal(status, 0, printed);
   return JSON.parse(fs.readFileSync(path.join(folder, 'dist', 'stats.json'), 'utf8'));
 }
@@ -45,20 +46,29 @@ function reached(modules, roots) {
   return found;
 }
 
-// The modules that load, those that the same groups reach as one, and one module more, which is the last.
-function condensedLine({ modules, groups }, reaches, asked) {
-  const signature = (number) => reaches.map((reach) => Number(reach.has(number))).join('');
+// The groups that reach a module, as a text.
+function signature(reaches, module) {
+  return reaches.map((reach) => Number(reach.has(module))).join('');
+}
+
+// The modules that load by the groups that reach them, each with what it loads.
+function homesOf({ modules }, reaches) {
   const homes = new Map();
   for (const [number, { blocks }] of modules.entries()) {
     if (blocks.length === 0) continue;
-    const key = signature(number);
+    const key = signature(reaches, number);
     homes.set(key, [...(homes.get(key) ?? []), ...blocks]);
   }
-  const keys = [...homes.keys(), signature(asked)];
+  return homes;
+}
+
+// A line with the modules that load, those that the same groups reach as one, and one module more, which is the last.
+function condensedLine(groups, homes, asked) {
+  const keys = [...homes.keys(), asked];
   assert.ok(keys.length <= MOST && groups.length <= MOST);
   const kept = [...homes.values(), []].map((loads) => ({ sync: [], loads }));
   const roots = (group) => [...keys.keys()].filter((at) => keys[at][group] === '1');
-  return { line: lineOf(kept, groups.map(({ entry }, group) => ({ entry, roots: roots(group) }))), last: kept.length - 1 };
+  return lineOf(kept, groups.map(({ entry }, group) => ({ entry, roots: roots(group) })));
 }
 
 // The program's reasons for each line: by group, the load history of each module.
@@ -78,7 +88,8 @@ function reasonsOf(lines) {
 function pageReasons(stats) {
   const build = new Build(stats);
   const loads = new Loads(build);
-  return stats.groups.map((_, group) => stats.modules.map((_, module) => whyPlaced(loads, group, module)));
+  const reaches = stats.modules.map((_, module) => loads.groupsThatReach(module));
+  return stats.groups.map((_, group) => stats.modules.map((_, module) => whyPlaced(loads, group, module, reaches[module])));
 }
 
 // Counts the pairs of a group and a module for which both tell a reason, and those for which both tell none.
@@ -97,7 +108,8 @@ function agreeOnWhole(all) {
 }
 
 function smallAgree() {
-  const { placed, not } = agreeOnWhole(Array.from({ length: SMALL_PROJECTS }, (_, seed) => statsOf(small(seed + 1))));
+  const program = programPath();
+  const { placed, not } = agreeOnWhole(Array.from({ length: SMALL_PROJECTS }, (_, seed) => statsOf(small(seed + 1), program)));
   assert.ok(placed >= 4 * SMALL_PROJECTS && not >= SMALL_PROJECTS, `${placed} and ${not} pairs`);
 }
 
@@ -106,13 +118,14 @@ function largeAgrees() {
   const stats = statsOf(large(2000));
   assert.equal(stats.modules.length, 2000);
   const reaches = stats.groups.map((group) => reached(stats.modules, group.roots));
-  const lines = stats.modules.map((_, module) => condensedLine(stats, reaches, module));
-  const kinds = [...new Set(lines.map(({ line }) => line))];
-  const told = new Map(reasonsOf(kinds).map((answer, at) => [kinds[at], answer]));
-  const reasons = pageReasons(stats);
-  for (const [module, { line, last }] of lines.entries()) {
-    for (const group of stats.groups.keys()) {
-      assert.deepEqual(reasons[group][module], told.get(line)[group].get(last) ?? null, `module ${module} in group ${group}`);
+  const homes = homesOf(stats, reaches);
+  const kinds = stats.modules.map((_, module) => signature(reaches, module));
+  const asked = [...new Set(kinds)];
+  const answers = reasonsOf(asked.map((kind) => condensedLine(stats.groups, homes, kind)));
+  const told = new Map(asked.map((kind, at) => [kind, answers[at].map((reasons) => reasons.get(homes.size) ?? null)]));
+  for (const [group, reasons] of pageReasons(stats).entries()) {
+    for (const [module, reason] of reasons.entries()) {
+      assert.deepEqual(reason, told.get(kinds[module])[group], `module ${module} in group ${group}`);
     }
   }
 }
