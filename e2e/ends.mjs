@@ -5,7 +5,7 @@ import { chunkpack, emitted, projectOf } from './command.mjs';
 
 const ENTRY = '{"entry":"./src/index.js"}';
 const WORDS = ['build', 'c.json'];
-const USAGE = 'usage: chunkpack build CONFIG\n';
+const USAGE = 'usage: chunkpack build CONFIG [--workers N] | chunkpack sample N [--workers N]\n';
 const MOST_BYTES = 4_194_304;
 const MOST_PATH_BYTES = 1_024;
 
@@ -47,7 +47,9 @@ function tooLong() {
 
 function badWords() {
   const refused = [[], ['build'], ['build', 'c.json', 'more'], ['pack', 'c.json'], ['build', '-c.json'], ['--help'],
-    ['build', '../c.json'], ['build', '/c.json'], ['build', '.']];
+    ['build', '../c.json'], ['build', '/c.json'], ['build', '.'], ['build', 'c.json', '--workers'], ['build', 'c.json', '--workers', '0'],
+    ['build', 'c.json', '--workers=33'], ['build', '--workers', '1', 'c.json', '--workers', '1'], ['build', '--', 'c.json', '--workers', '1'],
+    ['build', '-h', 'c.json'], ['sample'], ['sample', '0'], ['sample', '20001'], ['sample', '4', '5'], ['sample', 'four']];
   for (const words of refused) checkEnd({ 'c.json': ENTRY, 'src/index.js': '' }, words, 2, USAGE);
 }
 
@@ -69,6 +71,10 @@ function namesThatClash() {
     'c.json:1:1: B17 asset "a.js" of chunk 0 and chunk 1\nfaults: 1\n');
   build({ 'src/index.js': 'import(/* webpackChunkName: "main" */ "./x.js");', 'src/x.js': '' }, 1,
     'src/index.js:1:39: B13 chunk name "main" is an entry\nfaults: 1\n');
+  // Both at once: names of groups are told before those of assets.
+  build({ 'c.json': '{"output":{"filename":"a.js"},"entry":{"x":"./src/x.js","y":"./src/y.js"}}',
+    'src/x.js': 'import(/* webpackChunkName: "x" */ "./z.js");', 'src/y.js': '', 'src/z.js': '' }, 1,
+    'src/x.js:1:36: B13 chunk name "x" is an entry\nfaults: 1\n');
 }
 
 function missingConfiguration() {

@@ -90,8 +90,8 @@ function whatDoesNotCount() {
   copy.release();
   append(copy.place('docs/USING.md'), '\n');
   append(copy.place('crates/pack_run/README.md'), '\n');
-  append(copy.place('crates/tree_sample/src/lib.rt'), '\n');
-  append(copy.place('crates.txt'), '# a comment\nanother: tree_sample\n');
+  append(copy.place('crates/test_boards/src/lib.rt'), '\n');
+  append(copy.place('crates.txt'), '# a comment\nanother: test_boards\n');
   fs.mkdirSync(copy.place('crates/path_text/must-fail'), { recursive: true });
   append(copy.place('crates/path_text/must-fail/another.edit'), '\n');
   const lines = fs.readFileSync(copy.place('crates.txt'), 'utf8').split('\n');

@@ -14,6 +14,7 @@ import { checkPlaces } from './places.mjs';
 import { projects } from './projects.mjs';
 import { checkReasons } from './reasons.mjs';
 import { checkRelease } from './release.mjs';
+import { checkSamples } from './samples.mjs';
 import { Tally } from './tally.mjs';
 import { checkView } from './view.mjs';
 import { checkWords } from './words.mjs';
@@ -42,6 +43,7 @@ if (tally.failed === 0) {
   await checkPackages(tally);
   await checkEnds(tally);
   await checkWords(tally);
+  await checkSamples(tally);
   await checkPlaces(tally);
   await checkInstall(tally);
   await checkRelease(tally);

@@ -5,7 +5,7 @@ import fs from 'node:fs';
 import path from 'node:path';
 import { command, isOnPath, programPath, projectOf, run, temporaryFolder } from './command.mjs';
 
-const USAGE = { status: 2, printed: 'usage: chunkpack build CONFIG\n' };
+const USAGE = { status: 2, printed: 'usage: chunkpack build CONFIG [--workers N] | chunkpack sample N [--workers N]\n' };
 const PROJECT = { 'c.json': '{"entry":"./a.js"}', 'a.js': '' };
 
 // `byte` stands for the byte 255 in the words of a shell.

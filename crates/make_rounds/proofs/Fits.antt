@@ -6,7 +6,9 @@ use Rattle.std.proofs.lemmas.List.Sums.{sum_by-cons}
 use Rattle.std.proofs.lemmas.List.Sorted.{All-permutation, length_permutation, sum_by-IsPermutation}
 use Rattle.std.specs.List.{AllByRecursion, enumerate_from, sum_by}
 use Rattle.std.specs.Prelude.{Contains, IsPermutation, Option, Some, None, count_by, filter_map, flat_map}
+use Rattle.fault_place.specs.Limit.{number_of}
 use Rattle.fault_place.specs.declared.fault.Fault.{Fault}
+use Rattle.fault_place.specs.declared.limit.Limit.TheVariants.{Modules, Blocks}
 use Rattle.fault_place.specs.declared.number.FileId.{FileId}
 use Rattle.graph_types.specs.Edges.{HasFewItems, block_of, blocks_in, is_lazy}
 use Rattle.graph_types.specs.Fits.{Fits, IsSized}
@@ -17,15 +19,21 @@ use Rattle.graph_types.specs.declared.item.Item.{Item}
 use Rattle.graph_types.specs.declared.record.ModRecord.{ModRecord}
 use Rattle.module_build.specs.Shape.{IsSimple}
 use Rattle.make_rounds.specs.Counts.{lazy_items}
-use Rattle.make_rounds.specs.inner.Gathered.{AreSimple, IsGraphFrom}
-use Rattle.make_rounds.proofs.Findings.{all-kept}
+use Rattle.make_rounds.specs.inner.Closed.{IsGraphFrom}
+use Rattle.make_rounds.proofs.Lists.{all-kept}
+
+-- records of files among so many, within the limits on modules and blocks
+pub record AreSimple (count : ℕ) (records : List ModRecord) : Type 0 where
+  pub each : AllByRecursion (λ rec. IsSimple count rec.file rec) records
+  pub few : length records ≤ number_of Modules
+  pub few_blocks : sum_by lazy_items records ≤ number_of Blocks
 
 shuffled : (count : ℕ) (records others : List ModRecord) → IsPermutation records others → AllByRecursion (λ (rec : ModRecord). IsSimple count rec.file rec) records → AllByRecursion (λ (rec : ModRecord). IsSimple count rec.file rec) others
 shuffled count records others same all =
     recursion_from_All _ others (All-permutation (λ (rec : ModRecord). IsSimple count rec.file rec) records others same (All-from_recursion _ records all))
 
-pub few_items : (count : ℕ) (records : List ModRecord) → AreSimple count records → AllByRecursion HasFewItems records
-few_items count records simple = all-kept (λ (rec : ModRecord). IsSimple count rec.file rec) HasFewItems (λ (rec : ModRecord) one. one.whole.few) records simple.each
+pub few_items : (count : ℕ) (records : List ModRecord) → AllByRecursion (λ (rec : ModRecord). IsSimple count rec.file rec) records → AllByRecursion HasFewItems records
+few_items count records each = all-kept (λ (rec : ModRecord). IsSimple count rec.file rec) HasFewItems (λ (rec : ModRecord) one. one.whole.few) records each
 
 -- each fault of a record is one of those of all records
 own : (all : List Fault) → ((fault : Fault) → Contains all fault → Contains all fault) → (faults : List Fault) → ((fault : Fault) → Contains faults fault → Contains all fault) → AllByRecursion (Contains all) faults

@@ -3,7 +3,7 @@ use Rattle.std.proofs.Common.{◌≡◌, ℕ, List, [], ◌∷◌, map, refl, sy
 use Rattle.std.proofs.lemmas.List.Elements.{All-from_recursion, recursion_from_All}
 use Rattle.std.proofs.lemmas.List.Sorted.{All-permutation, Contains-permutation, IsPermutation-map, IsPermutation-sym}
 use Rattle.std.specs.List.{AllByRecursion}
-use Rattle.std.specs.Prelude.{Contains, IsTrue, IsPermutation, filter_map}
+use Rattle.std.specs.Prelude.{Contains, IsTrue, IsPermutation, filter_map, flat_map}
 use Rattle.fault_place.specs.declared.fault.Fault.{Fault}
 use Rattle.fault_place.specs.declared.number.FileId.{FileId}
 use Rattle.graph_types.specs.Graphs.{IsGraphOf, roots_of}
@@ -12,8 +12,14 @@ use Rattle.graph_types.specs.Reached.{IsReached}
 use Rattle.graph_types.specs.Targets.{targets_by}
 use Rattle.graph_types.specs.declared.record.ModRecord.{ModRecord}
 use Rattle.make_rounds.specs.inner.Answered.{numbers_of}
-use Rattle.make_rounds.specs.inner.Gathered.{AreGathered, IsGraphFrom, all_numbers}
-use Rattle.make_rounds.proofs.Findings.{all-kept}
+use Rattle.make_rounds.specs.inner.Closed.{IsGraphFrom}
+use Rattle.make_rounds.proofs.Lists.{all-kept}
+
+-- the records of the reached files, in some order
+pub record AreGathered (record_of : ℕ → ModRecord) (first : List ℕ) (records : List ModRecord) : Type 0 where
+  pub members : List ℕ
+  pub records_are : records ≡ map record_of members
+  pub reached : IsReached (targets_by record_of) first members
 
 module _ (record_of : ℕ → ModRecord) (file_is : (number : ℕ) → (record_of number).file ≡ file_id number) where
   numbers_are : (members : List ℕ) → files_of (map record_of members) ≡ members
@@ -48,7 +54,7 @@ roots_are records [] = refl
 roots_are records (entry ∷ entries) = λ i. filter_map (module_of records) (sym (same_files entry) i) ∷ roots_are records entries i
 
 module _ (record_of : ℕ → ModRecord) (file_is : (number : ℕ) → (record_of number).file ≡ file_id number) (entries : List (List FileId)) (faults : List Fault) (records : List ModRecord) (graph : Graph)
-    (gathered : AreGathered record_of (all_numbers entries) records) (from : IsGraphFrom records entries faults graph) where
+    (gathered : AreGathered record_of (flat_map (λ (files : List ℕ). files) (map numbers_of entries)) records) (from : IsGraphFrom records entries faults graph) where
   members_are : files_of records ≡ gathered.members
   members_are = ap files_of gathered.records_are ∙ numbers_are record_of file_is gathered.members
 
@@ -64,7 +70,7 @@ module _ (record_of : ℕ → ModRecord) (file_is : (number : ℕ) → (record_o
   graph_is = record {
     members = files_of graph.records;
     ascending = from.ascending;
-    reached = IsReached-permutation (targets_by record_of) (all_numbers entries) gathered.members (files_of graph.records) shuffled gathered.reached;
+    reached = IsReached-permutation (targets_by record_of) (flat_map (λ (files : List ℕ). files) (map numbers_of entries)) gathered.members (files_of graph.records) shuffled gathered.reached;
     records_are = all_are record_of file_is graph.records each;
     roots_are = from.roots_are ∙ roots_are graph.records entries;
     faults_are = from.faults_are;

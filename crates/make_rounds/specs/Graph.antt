@@ -1,16 +1,15 @@
 -- What the make phase answers and reads on a tree (this project).
-use Rattle.std.specs.Prelude.{◌≡◌, ℕ, List, map, flat_map, nat_eq, IsPermutation, Result, Ok, Err}
+use Rattle.std.specs.Prelude.{◌≡◌, ℕ, List, [], map, flat_map, nat_eq, IsPermutation, Result, Ok, Err}
 use Rattle.std.specs.List.{IsDistinct}
 use Rattle.fault_place.specs.declared.limit.Limit.{Limit}
 use Rattle.graph_types.specs.Graphs.{IsGraphOf}
 use Rattle.graph_types.specs.Modules.{Graph}
 use Rattle.graph_types.specs.declared.config.Config.{Config}
-use Rattle.module_build.specs.Readings.{AreReadings, Readings}
+use Rattle.module_build.specs.Readings.{Readings}
 use Rattle.module_build.specs.Reads.{ReadsPaths, file_path}
 use Rattle.module_build.specs.Record.{record_of}
-use Rattle.outside.specs.Logs.{Gains}
+use Rattle.outside.specs.Logs.{is_config, paths_for}
 use Rattle.outside.specs.Tree.{Tree}
-use Rattle.outside.specs.Views.{ReaderView}
 use Rattle.outside.specs.declared.entry.Why.{Why}
 use Rattle.make_rounds.specs.Counts.{AreReached, ExceedsReached}
 use Rattle.make_rounds.specs.Entries.{faults_by, files_by, root_naming}
@@ -38,10 +37,12 @@ pub record ReadsReached (readings : Readings) (tree : Tree) (config : Config) (r
   pub reached : AreReached (record_of readings tree config) (first_files readings tree config) files
 
 -- Each module of the graph is read once as one, and no other file is. Where there is no graph, no file is read twice, and none
--- that isn't reached.
+-- that isn't reached; where memory ran out, that isn't said.
 abbrev pub ReadsOnce : Readings → Tree → Config → Result Graph MakeEnd → List (List ℕ × Why) → Type 0
 ReadsOnce readings tree config (Ok graph) reads = (paths : List (List ℕ)) × IsPermutation (map (λ rec. rec.path) graph.records) paths × ReadsPaths paths reads
-ReadsOnce readings tree config (Err end) reads = ReadsReached readings tree config reads
+ReadsOnce readings tree config (Err ends.ReadFault) reads = ReadsReached readings tree config reads
+ReadsOnce readings tree config (Err (ends.Limit limit)) reads = ReadsReached readings tree config reads
+ReadsOnce readings tree config (Err ends.NoMemory) reads = paths_for is_config reads ≡ []
 
 -- an Ok is the graph, and then no limit is exceeded; a limit that is answered is exceeded
 abbrev pub AnswersGraph : Readings → Tree → Config → List ℕ → Result Graph MakeEnd → Type 0
@@ -49,9 +50,3 @@ AnswersGraph readings tree config path (Ok graph) = IsGraphBy readings tree conf
 AnswersGraph readings tree config path (Err ends.ReadFault) = Unit {0}
 AnswersGraph readings tree config path (Err (ends.Limit limit)) = Exceeded readings tree config limit
 AnswersGraph readings tree config path (Err ends.NoMemory) = Unit {0}
-
--- what making the graph of a configuration answers and reads on a tree, by any right reading of texts
-pub record Makes (tree : Tree) (config : Config) (path : List ℕ) (before now : ReaderView) (result : Result Graph MakeEnd) : Type 0 where
-  pub no_stray : now.strays ≡ before.strays
-  pub answer : (readings : Readings) → AreReadings readings → AnswersGraph readings tree config path result
-  pub reads : (readings : Readings) → AreReadings readings → Gains before now (ReadsOnce readings tree config result)

@@ -1,3 +1,5 @@
+pub use Rattle.build_round.specs.Readers
+pub use Rattle.build_round.specs.Rounds
 pub use Rattle.graph_types.specs.Fits
 pub use Rattle.graph_types.specs.Graphs
 pub use Rattle.graph_types.specs.Targets
@@ -11,4 +13,5 @@ pub mod Cause
 pub mod Counts
 pub mod Entries
 pub mod Graph
+pub mod Make
 pub mod inner

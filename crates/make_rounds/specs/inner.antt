@@ -1,4 +1,7 @@
 pub mod Answered
+pub mod Closed
 pub mod Counting
 pub mod Found
-pub mod Gathered
+pub mod Growing
+pub mod Places
+pub mod Starting

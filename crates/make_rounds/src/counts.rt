@@ -1,7 +1,11 @@
 //! What the modules of a build count.
-ghost use Rattle.std.specs.Prelude.{◌≡◌, [], MatchOption, count_by};
+ghost use Rattle.std.specs.Prelude.{◌≡◌, ℕ, ◌<◌, ◌≤◌, [], MatchOption, IfErr, IsOk, count_by};
+ghost use Rattle.std.specs.List.{AllByRecursion};
+ghost use Rattle.fault_place.specs.Limit.{number_of};
+ghost use Rattle.fault_place.specs.declared.limit.Limit.{Limit as Bound};
 ghost use Rattle.graph_types.specs.Edges.{HasFewItems, is_lazy};
-ghost use Rattle.make_rounds.specs.inner.Counting.{IsAllowed, IsExceeded, counts_of, with_module, with_record};
+ghost use Rattle.make_rounds.specs.Counts.{counted};
+ghost use Rattle.make_rounds.specs.inner.Counting.{IsAllowed, IsExceeded, counts_of, with_file, with_record};
 
 use fault_place::{Limit, MAX_TEXT};
 use graph_types::{Item, ItemKind, ModRecord};
@@ -44,9 +48,9 @@ impl Counts {
     }
 
     /// With one file more, of so many bytes: one that is too long isn't read, and counts none.
-    pub(crate) fn with_module(self, bytes: u64) -> Counts
+    pub(crate) fn with_file(self, bytes: u64) -> Counts
         requires { IsAllowed self }
-        ensures { result ≡ with_module self bytes }
+        ensures { result ≡ with_file self bytes }
     {
         let read = if bytes > MAX_TEXT { 0 } else { bytes };
         Counts {
@@ -57,16 +61,17 @@ impl Counts {
         }
     }
 
-    /// With what the record of the last file has.
-    pub(crate) fn with_record(self, rec: &ModRecord) -> Counts
+    /// With one record more.
+    fn with_record(self, rec: &ModRecord) -> Counts
         requires allowed { IsAllowed self }
         requires few { HasFewItems rec.now }
         ensures { result ≡ with_record self rec.now }
     {
+        let with_file = self.with_file(rec.size);
         let items = rec.items.as_slice();
         Counts {
-            modules: self.modules,
-            text_bytes: self.text_bytes,
+            modules: with_file.modules,
+            text_bytes: with_file.text_bytes,
             items: self.items + items.len() as u64,
             blocks: self.blocks + lazy_items(items),
         }
@@ -90,4 +95,20 @@ impl Counts {
         }
         None
     }
+}
+
+/// Whether records keep within each limit, or else one that they exceed.
+pub(crate) fn check_limits(records: &[ModRecord]) -> Result<(), Limit>
+    requires { AllByRecursion HasFewItems records.now }
+    ensures within { IsOk result → (limit : Bound) → counted records.now limit ≤ number_of limit }
+    ensures exceeded { IfErr result (λ limit. number_of limit < counted records.now limit) }
+{
+    let mut counts = Counts::none();
+    for record in records {
+        counts = counts.with_record(record);
+        if let Some(limit) = counts.exceeded() {
+            return Err(limit);
+        }
+    }
+    Ok(())
 }

@@ -1,71 +1,60 @@
-//! The files that a build has found.
-ghost use Rattle.std.specs.Prelude.{◌≡◌, ◌<◌, ◌≤◌, [], length, map, nat_eq, slice_index, IfOk, OnOk};
-ghost use Rattle.std.specs.List.{AllByRecursion, IsDistinct};
-ghost use Rattle.make_rounds.specs.inner.Found.{with_finding};
+//! The files that a build has found, which are counted before they are read.
+ghost use Rattle.std.specs.Prelude.{◌≡◌, ℕ, ◌<◌, Bool, replicate, length, false, IfOk, IfErr, IsOk, IsTrue};
+ghost use Rattle.std.specs.List.{AllByRecursion};
+ghost use Rattle.graph_types.specs.Reached.{HoldsAll};
+ghost use Rattle.tree_listing.specs.Listing.{AreAscending};
+ghost use Rattle.make_rounds.specs.inner.Answered.{numbers_of};
+ghost use Rattle.make_rounds.specs.inner.Counting.{IsAllowed, IsExceeded};
+ghost use Rattle.make_rounds.specs.inner.Found.{IsCounted, marked};
 
+use crate::counts::Counts;
 use bit_rows::BitRow;
-use fault_place::{FileId, NoMemory};
+use fault_place::{FileId, Limit, NoMemory};
 use std::alloc::Global;
-use std::marker::Model;
+use tree_listing::Listing;
 
-/// The files found so far, each once, in the order in which they were found.
+/// Which files were found, and what is counted of them: the modules and the bytes of text.
 #[derive(Drop)]
 pub(crate) struct Found {
-    files: Vec<FileId>,
-    seen: BitRow,
-}
-
-impl Model for Found {
-    ghost use Rattle.std.specs.Prelude.{map, length};
-    ghost use Rattle.make_rounds.specs.inner.Found.{Finding, IsMarked};
-
-    ghost Value = { Finding };
-
-    ghost view = { λ found. record { of = length found.seen; files = map (λ file. file.0) found.files.items } };
-
-    ghost invariant = { λ found. IsMarked found.seen (map (λ file. file.0) found.files.items) };
+    pub(crate) marks: BitRow,
+    pub(crate) counts: Counts,
 }
 
 impl Found {
-    /// None yet, of so many files.
-    pub(crate) fn new(alloc: Global, of: u32) -> Result<Found, NoMemory>
-        ensures { IfOk result (λ found. found ≡ record { of = of; files = [] }) }
+    /// None yet, of the files of a listing.
+    pub(crate) fn new(alloc: Global, listing: &Listing) -> Result<Found, NoMemory>
+        ensures counted { IfOk result (IsCounted listing.now.files) }
+        ensures ascending { AreAscending listing.now.files }
+        ensures allowed { IfOk result (λ found. IsAllowed found.counts) }
+        ensures none { IfOk result (λ found. (set : ℕ → Bool) → HoldsAll set (marked found.marks)) }
     {
+        let count = listing.count();
         Ok(Found {
-            files: Vec::new(alloc),
-            seen: BitRow::new(alloc, of)?,
+            marks: BitRow::new(alloc, count)?,
+            counts: Counts::none(),
         })
     }
 
-    /// Adds a file, where it wasn't found before.
-    pub(crate) fn add(&mut self, file: FileId) -> Result<(), NoMemory>
-        requires { file.0 < self.old.of }
-        ensures { OnOk result (self.new ≡ with_finding self.old file.0) }
+    /// Counts each of the files that wasn't found before, until a limit is exceeded.
+    pub(crate) fn add(&mut self, listing: &Listing, files: &[FileId]) -> Result<(), Limit>
+        requires counted { IsCounted listing.now.files self.old }
+        requires allowed { IsAllowed self.old.counts }
+        requires within { AllByRecursion (λ file. file.0 < length listing.now.files) files.now }
+        ensures counted { IsCounted listing.now.files self.new }
+        ensures allowed { IsOk result → IsAllowed self.new.counts }
+        ensures exceeded { IfErr result (IsExceeded self.new.counts) }
+        ensures among { (set : ℕ → Bool) → HoldsAll set (marked self.old.marks) → HoldsAll set (numbers_of files.now) → HoldsAll set (marked self.new.marks) }
     {
-        if self.seen.get(file.0) {
-            return Ok(());
+        for file in files {
+            if self.marks.get(file.0) {
+                continue;
+            }
+            self.marks.set(file.0, true);
+            self.counts = self.counts.with_file(listing.length(*file));
+            if let Some(limit) = self.counts.exceeded() {
+                return Err(limit);
+            }
         }
-        self.files.push(file)?;
-        self.seen.set(file.0, true);
         Ok(())
-    }
-
-    /// How many files were found.
-    pub(crate) fn len(&self) -> usize
-        ensures count { result ≡ length self.now.files }
-        ensures few { length self.now.files ≤ self.now.of }
-        ensures within { AllByRecursion (λ file. file < self.now.of) self.now.files }
-        ensures distinct { IsDistinct nat_eq self.now.files }
-    {
-        self.files.len()
-    }
-
-    /// The file that was found at a place.
-    pub(crate) fn file(&self, place: usize) -> FileId
-        requires { place < length self.now.files }
-        ensures is { result.0 ≡ slice_index self.now.files place }
-        ensures within { result.0 < self.now.of }
-    {
-        self.files[place]
     }
 }

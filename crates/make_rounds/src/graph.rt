@@ -5,7 +5,7 @@ ghost use Rattle.fault_place.specs.Limit.{number_of};
 ghost use Rattle.fault_place.specs.declared.limit.Limit.TheVariants.{Modules};
 ghost use Rattle.graph_types.specs.Edges.{HasFewItems};
 ghost use Rattle.graph_types.specs.Modules.{AreAscending, files_of};
-ghost use Rattle.make_rounds.specs.inner.Gathered.{IsGraphFrom};
+ghost use Rattle.make_rounds.specs.inner.Closed.{IsGraphFrom};
 
 use fault_place::{Fault, FileId, NoMemory, Seq};
 use graph_types::{ModRecord, ModuleGraph};

@@ -1,5 +1,6 @@
 ghost use Rattle.std.specs.Prelude.{◌≡◌};
 ghost use Rattle.make_rounds.specs.Cause.{read_end};
+ghost use Rattle.make_rounds.specs.declared.make_end.MakeEnd.TheVariants as ends;
 ghost use Rattle.make_rounds.specs.declared.make_end.MakeEnd.TheVariants.{NoMemory};
 
 use fault_place::Limit;
@@ -40,5 +41,13 @@ impl<T: Drop> From<AllocFailed<T>> for MakeEnd {
 
     fn from(_: AllocFailed<T>) -> MakeEnd {
         MakeEnd::NoMemory
+    }
+}
+
+impl From<Limit> for MakeEnd {
+    ghost from_gives = { λ limit end. end ≡ ends.Limit limit };
+
+    fn from(limit: Limit) -> MakeEnd {
+        MakeEnd::Limit(limit)
     }
 }

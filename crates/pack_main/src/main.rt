@@ -17,6 +17,7 @@ fn reader<R: Files + AllocGlobal>(rt: &R) -> Result<DirReader<&R>, NoMemory> {
     Ok(DirReader::new(rt, Text::new(rt.alloc(), ".")?))
 }
 
+/// A reader for each worker that a command may have.
 fn readers<R: Files + AllocGlobal>(rt: &R) -> Result<Vec<DirReader<&R>>, NoMemory>
     ensures { IfOk result (λ readers. 0 < vec_len readers) }
 {

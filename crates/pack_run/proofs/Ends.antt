@@ -1,21 +1,17 @@
 -- What an end leaves, case by case.
-use Rattle.std.proofs.Common.{◌≡◌, ℕ, ◌⊎◌, List, length, take, refl, sym, ap, ◌∙◌, subst, inl, inr, append-nil}
-use Rattle.std.specs.Prelude.{Option, Some, None, Result, Ok, Err}
+use Rattle.std.proofs.Common.{◌≡◌, ℕ, ◌⊎◌, List, length, take, refl, sym, ap, subst, inl, inr, append-nil}
+use Rattle.std.specs.Prelude.{Option, Some, None}
 use Rattle.std.proofs.Math.Seq.{take-length}
 use Rattle.outside.specs.Sinks.{HasAdded}
 use Rattle.outside.specs.Tree.{Tree}
 use Rattle.outside.specs.Views.{SinkView}
 use Rattle.outside.specs.declared.asset_sink.Asset.{Asset}
 use Rattle.outside.specs.declared.entry.Why.{Why}
-use Rattle.outside.specs.declared.outside_end.OutsideEnd.{OutsideEnd}
-use Rattle.outside.specs.declared.outside_end.OutsideEnd.TheVariants as outside
 use Rattle.pack_run.specs.End.{IsDecided, OnNothingPut}
-use Rattle.pack_run.specs.inner.Decision.{DecidesUsage}
 use Rattle.pack_run.specs.Reads.{ReadsBuild}
 use Rattle.pack_run.specs.Report.{Adds, AddsFront, AddsProperFront, MayEnd, Reports}
-use Rattle.pack_run.specs.Run.{Ends, IsByWords, OnVerdict}
-use Rattle.pack_run.specs.Verdict.{IsMissing, IsJobVerdict, IsTextVerdict, IsVerdict, end_by}
-use Rattle.pack_run.specs.Words.{config_path}
+use Rattle.pack_run.specs.Run.{Ends}
+use Rattle.pack_run.specs.Verdict.{IsVerdict, end_by}
 use Rattle.pack_run.specs.declared.end.End.{End}
 use Rattle.pack_run.specs.declared.end.End.TheVariants.{Built, Faults, Usage, Config, Limit, ReadFault, WriteFault, LineFault, NoMemory}
 use Rattle.pack_run.specs.declared.verdict.Verdict.{Verdict}
@@ -37,9 +33,9 @@ module _ {A : Type 0} where
   pub AddsFront-proper : (before now : SinkView A) (members : List A) → AddsProperFront before now members → AddsFront before now members
   AddsFront-proper before now members front = (front.0, front.2)
 
-module _ (words : List (List ℕ)) (tree : Tree) (reads : List (List ℕ × Why)) (sink sink' : SinkView Asset) (lines lines' : SinkView (List ℕ)) where
+module _ (words : List (List ℕ)) (readers : ℕ) (tree : Tree) (reads : List (List ℕ × Why)) (sink sink' : SinkView Asset) (lines lines' : SinkView (List ℕ)) where
   -- the verdict that was reported is the one on the tree
-  pub ends_by : (end : End) (verdict : Verdict) (paths : List (List ℕ)) → IsVerdict words tree verdict paths → ReadsBuild words paths reads → Reports verdict sink sink' lines lines' end → Ends words tree reads sink sink' lines lines' end
+  pub ends_by : (end : End) (verdict : Verdict) (paths : List (List ℕ)) → IsVerdict words readers tree verdict paths → ReadsBuild words readers paths reads → Reports verdict sink sink' lines lines' end → Ends words readers tree reads sink sink' lines lines' end
   ends_by Built verdict paths is read tells = (verdict, paths, is, read, tells)
   ends_by (Faults count) verdict paths is read tells = (verdict, paths, is, read, tells)
   ends_by Usage verdict paths is read tells = (verdict, paths, is, read, tells)
@@ -50,22 +46,17 @@ module _ (words : List (List ℕ)) (tree : Tree) (reads : List (List ℕ × Why)
   ends_by LineFault verdict paths is read left = (verdict, paths, is, read, left)
   ends_by NoMemory verdict paths is read left = inr (verdict, paths, is, read, left)
 
-  -- where the configuration is missing, there is no verdict
-  no_verdict : IsMissing words tree → (Fact : Verdict → Type 0) → OnVerdict words tree reads Fact → ⊥
-  no_verdict missing Fact on =
-      let job : IsJobVerdict tree (Some missing.0) on.0 on.1 = subst (λ path. IsJobVerdict tree path on.0 on.1) missing.1 on.2 in
-      subst (λ bytes. IsTextVerdict tree missing.0 bytes on.0 on.1) missing.2 job
-
-  pub missing_ends : (end : End) → IsMissing words tree → Ends words tree reads sink sink' lines lines' end → (end ≡ ReadFault) ⊎ (end ≡ NoMemory)
-  missing_ends Built missing left = absurd (no_verdict missing _ left)
-  missing_ends (Faults count) missing left = absurd (no_verdict missing _ left)
-  missing_ends Usage missing left = absurd (no_verdict missing _ left)
-  missing_ends Config missing left = absurd (no_verdict missing _ left)
-  missing_ends (Limit limit) missing left = absurd (no_verdict missing _ left)
-  missing_ends ReadFault missing left = inl refl
-  missing_ends WriteFault missing left = absurd (no_verdict missing _ left)
-  missing_ends LineFault missing left = absurd (no_verdict missing _ left)
-  missing_ends NoMemory missing left = inr refl
+  -- where no verdict is that of the words, an end tells none
+  pub unverdicted : ((verdict : Verdict) (paths : List (List ℕ)) → IsVerdict words readers tree verdict paths → ⊥) → (end : End) → Ends words readers tree reads sink sink' lines lines' end → (end ≡ ReadFault) ⊎ (end ≡ NoMemory)
+  unverdicted none Built left = absurd (none left.0 left.1 left.2)
+  unverdicted none (Faults count) left = absurd (none left.0 left.1 left.2)
+  unverdicted none Usage left = absurd (none left.0 left.1 left.2)
+  unverdicted none Config left = absurd (none left.0 left.1 left.2)
+  unverdicted none (Limit limit) left = absurd (none left.0 left.1 left.2)
+  unverdicted none ReadFault left = inl refl
+  unverdicted none WriteFault left = absurd (none left.0 left.1 left.2)
+  unverdicted none LineFault left = absurd (none left.0 left.1 left.2)
+  unverdicted none NoMemory left = inr refl
 
 -- the end of a reported verdict
 usage_verdict : (verdict : Verdict) → Usage ≡ end_by verdict → verdict ≡ verdicts.Usage
@@ -75,16 +66,9 @@ usage_verdict (verdicts.Limit limit) is = cc
 usage_verdict (verdicts.Faults faults) is = cc
 usage_verdict (verdicts.Built build) is = cc
 
-pub usage_only : (words : List (List ℕ)) (verdict : Verdict) (end : End) → MayEnd verdict end → (verdict ≡ verdicts.Usage → config_path words ≡ None) → end ≡ Usage → config_path words ≡ None
-usage_only words verdict Usage may only is = only (usage_verdict verdict may)
-usage_only words verdict Built may only is = cc
-usage_only words verdict (Faults count) may only is = cc
-usage_only words verdict Config may only is = cc
-usage_only words verdict (Limit limit) may only is = cc
-usage_only words verdict ReadFault may only is = cc
-usage_only words verdict WriteFault may only is = cc
-usage_only words verdict LineFault may only is = cc
-usage_only words verdict NoMemory may only is = cc
+-- usage is the end of no other verdict
+pub usage_only : (verdict : Verdict) (end : End) → MayEnd verdict end → end ≡ Usage → verdict ≡ verdicts.Usage
+usage_only verdict end may is = usage_verdict verdict (subst (MayEnd verdict) is may)
 
 pub usage_ends : (end : End) → MayEnd verdicts.Usage end → (end ≡ Usage) ⊎ (end ≡ LineFault) ⊎ (end ≡ NoMemory)
 usage_ends Usage may = inl refl
@@ -115,19 +99,6 @@ decided_by WriteFault read write line = write refl
 decided_by LineFault read write line = line refl
 decided_by NoMemory read write line = tt
 
-refused_by : (result : Result Verdict OutsideEnd) (verdict : Verdict) (end : End) → result ≡ Ok verdict → MayEnd verdict end → (result ≡ Ok verdicts.Usage) ⊎ (result ≡ Err outside.NoMemory) → (end ≡ Usage) ⊎ (end ≡ LineFault) ⊎ (end ≡ NoMemory)
-refused_by result verdict end is may (inl usage) =
-    let same : verdict ≡ verdicts.Usage = cc in
-    usage_ends end (subst (λ verdict. MayEnd verdict end) same may)
-refused_by result verdict end is may (inr none) = cc
-
--- what a verdict's report leaves of the words' promise
-pub by_words : (words : List (List ℕ)) (result : Result Verdict OutsideEnd) (verdict : Verdict) (end : End) → DecidesUsage words result → result ≡ Ok verdict → MayEnd verdict end → IsByWords words end
-by_words words result verdict end usage is may = record {
-  only = λ at. usage_only words verdict end may (λ same. usage.only (is ∙ ap (λ verdict. Ok verdict) same)) at;
-  refused = λ none. refused_by result verdict end is may (usage.refused none);
-}
-
 -- where nothing is put for a verdict, nothing is put at the end of its report
 pub nothing_by : (verdict : Verdict) (end : End) (fact : Type 0) → MayEnd verdict end → OnNothingPut (end_by verdict) fact → OnNothingPut end fact
 nothing_by verdict Built fact may nothing = tt
@@ -139,3 +110,14 @@ nothing_by verdict (Faults count) fact may nothing = subst (λ end. OnNothingPut
 nothing_by verdict Usage fact may nothing = subst (λ end. OnNothingPut end fact) (sym may) nothing
 nothing_by verdict Config fact may nothing = subst (λ end. OnNothingPut end fact) (sym may) nothing
 nothing_by verdict (Limit limit) fact may nothing = subst (λ end. OnNothingPut end fact) (sym may) nothing
+
+pub nothing_at : (end : End) (fact : Type 0) → fact → OnNothingPut end fact
+nothing_at Built fact is = tt
+nothing_at WriteFault fact is = tt
+nothing_at LineFault fact is = tt
+nothing_at NoMemory fact is = tt
+nothing_at ReadFault fact is = is
+nothing_at (Faults count) fact is = is
+nothing_at Usage fact is = is
+nothing_at Config fact is = is
+nothing_at (Limit limit) fact is = is

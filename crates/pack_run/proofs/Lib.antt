@@ -1,7 +1,15 @@
-pub mod Configs
+pub mod Builds
+pub mod Carried
+pub mod Conclusions
 pub mod Decisions
 pub mod Ends
+pub mod Fresh
 pub mod Jobs
 pub mod Makings
+pub mod Meanings
+pub mod Promises
 pub mod Readers
+pub mod SampleConfigs
+pub mod SampleEnds
+pub mod Tasks
 pub mod Uniqueness

@@ -1,3 +1,6 @@
+pub use Rattle.asset_names.specs.Hash
+pub use Rattle.build_round.specs.Readers
+pub use Rattle.cli_words.specs.Words
 pub use Rattle.make_rounds.specs.Counts
 pub use Rattle.make_rounds.specs.Graph
 pub use Rattle.module_build.specs.Readings
@@ -11,11 +14,14 @@ pub use Rattle.pack_config.specs.Answer
 pub use Rattle.pack_util.specs.Lists
 pub use Rattle.seal_build.specs.Seal
 pub use Rattle.seal_build.specs.Served
+pub use Rattle.tree_sample.specs.Sample as SampleTree
+pub mod Accepted
 pub mod End
 pub mod inner
+pub mod Last
 pub mod Reads
 pub mod Report
 pub mod Run
+pub mod Sample
 pub mod Verdict
 pub mod WithinLimits
-pub mod Words

@@ -29,7 +29,7 @@ use Rattle.seal_build.specs.declared.seal_end.SealEnd.{SealEnd}
 use Rattle.seal_build.specs.declared.seal_end.SealEnd.TheVariants as seal_ends
 use Rattle.seal_build.specs.declared.sealed.Sealed.{Sealed}
 use Rattle.tree_listing.specs.Limits.{Exceeds}
-use Rattle.pack_run.specs.Words.{config_path}
+use Rattle.pack_run.specs.Accepted.{IsBuild, IsRefused}
 use Rattle.pack_run.specs.declared.end.End.{End}
 use Rattle.pack_run.specs.declared.end.End.TheVariants as ends
 use Rattle.pack_run.specs.declared.verdict.Build.{Build}
@@ -40,7 +40,9 @@ use Rattle.pack_run.specs.declared.verdict.Verdict.TheVariants.{Usage, Config, L
 abbrev pub build_of : ℕ → Sealed → Build
 build_of modules sealed = record {
   modules = modules;
+  groups = sealed.groups;
   chunks = sealed.chunks;
+  splits = sealed.splits;
   assets = sealed.assets ++ asset (codes "stats.json") sealed.stats ∷ [];
 }
 
@@ -91,12 +93,16 @@ pub record IsEarly (expected verdict : Verdict) (paths : List (List ℕ)) : Type
   pub verdict_is : verdict ≡ expected
   pub paths_are : paths ≡ []
 
--- the configuration's fault, or the limits of the tree, and then the modules
-abbrev pub IsConfigVerdict : Tree → List ℕ → List ℕ → Result BuildConfig ConfigFault → Verdict → List (List ℕ) → Type 0
-IsConfigVerdict tree path text (Err fault) verdict paths = IsEarly (Config (place_in path text fault.offset) fault.kind) verdict paths
-IsConfigVerdict tree path text (Ok config) verdict paths =
+-- what a tree comes to by a configuration at a path: the limits of the tree, and then the modules
+abbrev pub IsTreeVerdict : Tree → List ℕ → BuildConfig → Verdict → List (List ℕ) → Type 0
+IsTreeVerdict tree path config verdict paths =
     ((limit : Limit) × Exceeds tree limit × IsEarly (Over limit) verdict paths)
     ⊎ (((limit : Limit) → ¬ Exceeds tree limit) × IsMade tree config path verdict paths)
+
+-- the configuration's fault, or what the tree comes to by it
+abbrev pub IsConfigVerdict : Tree → List ℕ → List ℕ → Result BuildConfig ConfigFault → Verdict → List (List ℕ) → Type 0
+IsConfigVerdict tree path text (Err fault) verdict paths = IsEarly (Config (place_in path text fault.offset) fault.kind) verdict paths
+IsConfigVerdict tree path text (Ok config) verdict paths = IsTreeVerdict tree path config verdict paths
 
 -- what a configuration's text comes to
 pub record IsReadVerdict (tree : Tree) (path text : List ℕ) (verdict : Verdict) (paths : List (List ℕ)) : Type 0 where
@@ -109,17 +115,16 @@ abbrev pub IsTextVerdict : Tree → List ℕ → Option (List ℕ) → Verdict �
 IsTextVerdict tree path None verdict paths = ⊥
 IsTextVerdict tree path (Some text) verdict paths = IsReadVerdict tree path text verdict paths
 
-abbrev pub IsJobVerdict : Tree → Option (List ℕ) → Verdict → List (List ℕ) → Type 0
-IsJobVerdict tree None verdict paths = IsEarly Usage verdict paths
-IsJobVerdict tree (Some path) verdict paths = IsTextVerdict tree path (bytes_at tree path) verdict paths
-
--- the verdict of words on a tree, and the paths of the modules that it is made of
-abbrev pub IsVerdict : List (List ℕ) → Tree → Verdict → List (List ℕ) → Type 0
-IsVerdict words tree verdict paths = IsJobVerdict tree (config_path words) verdict paths
+-- The verdict of words on a tree that so many readers read, and the paths of the modules that it is made of. Those of a sample
+-- have none on it.
+abbrev pub IsVerdict : List (List ℕ) → ℕ → Tree → Verdict → List (List ℕ) → Type 0
+IsVerdict words readers tree verdict paths =
+    (IsRefused words readers × IsEarly Usage verdict paths)
+    ⊎ ((config : List ℕ) × IsBuild words readers config × IsTextVerdict tree config (bytes_at tree config) verdict paths)
 
 -- the words name a configuration that isn't in the tree
-abbrev pub IsMissing : List (List ℕ) → Tree → Type 0
-IsMissing words tree = (config : List ℕ) × (config_path words ≡ Some config) × (bytes_at tree config ≡ None)
+abbrev pub IsMissing : List (List ℕ) → ℕ → Tree → Type 0
+IsMissing words readers tree = (config : List ℕ) × IsBuild words readers config × (bytes_at tree config ≡ None)
 
 -- what a fault of the configuration is called
 abbrev pub config_kind_name : ConfigKind → List ℕ
@@ -155,7 +160,7 @@ built_line build =
 
 -- the lines that a verdict is printed as
 abbrev pub lines_of : Verdict → List (List ℕ)
-lines_of Usage = codes "usage: chunkpack build CONFIG" ∷ []
+lines_of Usage = codes "usage: chunkpack build CONFIG [--workers N] | chunkpack sample N [--workers N]" ∷ []
 lines_of (Config place kind) = config_line place kind ∷ []
 lines_of (Over limit) = limit_line limit ∷ []
 lines_of (Faults faults) = map line_of faults ++ count_line (length faults) ∷ []

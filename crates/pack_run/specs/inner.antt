@@ -1,2 +1,9 @@
+pub mod Carried
+pub mod Conclusion
 pub mod Decision
+pub mod First
+pub mod Fresh
+pub mod Meanings
+pub mod Sampled
 pub mod Stop
+pub mod Tasks

@@ -1,129 +1,88 @@
-ghost use Rattle.std.specs.Prelude.{◌≡◌, ◌≤◌, length, map, string_bytes, IfOk, IsErrOf, MatchResult};
+//! What a build comes to, from its configuration on.
+ghost use Rattle.std.specs.Prelude.{◌≡◌, ◌≤◌, length, IfOk};
 ghost use Rattle.fault_place.specs.Place.{place_in};
-ghost use Rattle.outside.specs.Cause.{Rose};
-ghost use Rattle.outside.specs.Tree.{Tree, Told};
-ghost use Rattle.tree_listing.specs.Listing.{IsListingOf};
-ghost use Rattle.pack_run.specs.inner.Decision.{Decides, DecidesOn, DecidesUsage};
 ghost use Rattle.pack_run.specs.Report.{CanReport, IsOfBuild};
-ghost use Rattle.pack_run.specs.inner.Stop.{unlisted};
-ghost use Rattle.pack_run.specs.Verdict.{IsMade, IsReadVerdict};
+ghost use Rattle.pack_run.specs.inner.Decision.{Decides, DecidesAt};
+ghost use Rattle.pack_run.specs.inner.Meanings.{Means, MeansGot};
 
 use crate::Verdict;
-use crate::outcome::outcome;
-use crate::words::config_path;
-use fault_place::{MAX_TEXT, NoMemory, place_at};
+use crate::decide_tree::decide_tree;
+use crate::first::read_first;
+use crate::steps::readers_keep;
+use fault_place::{NoMemory, Place, place_at};
 use graph_types::Config;
-use make_rounds::{MakeEnd, make_one_at_a_time};
-use module_build::laws::one_record;
-use outside::{OutsideEnd, ReadGot, TreeReader, Why};
+use outside::{OutsideEnd, ReadGot, TreeReader};
 use pack_config::{ConfigEnd, ConfigFault, ConfigKind, read_config};
-use std::alloc::Global;
-use tree_listing::{ListEnd, Listing, list};
+use std::alloc::{AllocError, Global};
+use std::thread::Threads;
 
-/// The verdict on the modules, once the configuration and the listing are there.
-fn decide_made<R: TreeReader>(
-    alloc: Global,
-    reader: &mut R,
-    listing: &Listing,
-    config: &Config,
-    path: &str,
-) -> Result<Verdict, OutsideEnd>
-    ensures follows { R.follows reader.old reader.new }
-    ensures cause { IsErrOf result OutsideEnd.Failed → Rose (R.view reader.old).faults (R.view reader.new).faults }
-    ensures reportable { IfOk result CanReport }
-    ensures build { IfOk result IsOfBuild }
-    ensures told { Told (R.view reader.old).tree (λ tree. IsListingOf tree listing.now
-        → DecidesOn (IsMade tree config.now path.now) tree (R.view reader.old) (R.view reader.new) result) }
-{
-    one_record();
-    match make_one_at_a_time(alloc, reader, listing, config, path) {
-        Ok(graph) => Ok(outcome(alloc, &graph, config, path)?),
-        Err(MakeEnd::Limit(limit)) => Ok(Verdict::Limit(limit)),
-        Err(MakeEnd::ReadFault) => Err(OutsideEnd::Failed),
-        Err(MakeEnd::NoMemory) => Err(OutsideEnd::NoMemory),
-    }
+/// What a configuration's text means: how to build, or a fault at a place.
+#[derive(Drop)]
+enum Meaning {
+    Config(Config),
+    Fault { place: Place, kind: ConfigKind },
 }
 
-/// The verdict once the configuration's text is read.
-fn decide_config<R: TreeReader>(
+/// What a build comes to by the configuration at a path, on the tree that so many of the readers read. The first reader
+/// reads the configuration.
+pub(crate) fn decide<R: TreeReader + Send, Rt: Threads + Sync>(
+    rt: &Rt,
     alloc: Global,
-    reader: &mut R,
+    readers: &mut Vec<R>,
+    workers: u32,
     path: &str,
-    text: &[u8],
 ) -> Result<Verdict, OutsideEnd>
-    ensures follows { R.follows reader.old reader.new }
-    ensures cause { IsErrOf result OutsideEnd.Failed → Rose (R.view reader.old).faults (R.view reader.new).faults }
-    ensures reportable { IfOk result CanReport }
-    ensures build { IfOk result IsOfBuild }
-    ensures told { Told (R.view reader.old).tree (λ tree.
-        DecidesOn (IsReadVerdict tree path.now text.now) tree (R.view reader.old) (R.view reader.new) result) }
-{
-    let config = match read_config(alloc, text) {
-        Ok(config) => config,
-        Err(ConfigEnd::Fault(fault)) => return Ok(bad_config(alloc, path, text, fault)?),
-        Err(ConfigEnd::NoMemory) => return Err(OutsideEnd::NoMemory),
-    };
-    match list(alloc, reader) {
-        Ok(listing) => decide_made(alloc, reader, &listing, &config, path),
-        Err(end) => unlisted(end),
-    }
-}
-
-/// What a tree comes to that wasn't listed.
-fn unlisted(end: ListEnd) -> Result<Verdict, OutsideEnd>
-    ensures value { result ≡ unlisted end }
-    ensures failed { IsErrOf result OutsideEnd.Failed → end ≡ ListEnd.Failed }
+    requires some { 1 ≤ workers }
+    requires few { workers ≤ 32 }
+    requires readers { workers ≤ length readers.old.items }
+    ensures decides { Decides R.follows R.view readers.old.items readers.new.items result
+        (λ tree. DecidesAt R.view path.now tree readers.old.items readers.new.items result) }
     ensures reportable { IfOk result CanReport }
     ensures build { IfOk result IsOfBuild }
 {
-    match end {
-        ListEnd::Limit(limit) => Ok(Verdict::Limit(limit)),
-        ListEnd::Failed => Err(OutsideEnd::Failed),
-        ListEnd::NoMemory => Err(OutsideEnd::NoMemory),
+    readers_keep(readers);
+    let got = read_first(alloc, readers, path)?;
+    match meaning_got(alloc, path, &got)? {
+        Meaning::Config(config) => decide_tree(rt, alloc, readers, workers, &config, path),
+        Meaning::Fault { place, kind } => Ok(Verdict::Config { place, kind }),
     }
 }
 
-/// The verdict of a fault of the configuration. The line of an offset behind the text would be its last.
-fn bad_config(
-    alloc: Global,
-    path: &str,
-    text: &[u8],
-    fault: ConfigFault,
-) -> Result<Verdict, NoMemory>
-    ensures { IfOk result (λ verdict. verdict ≡ Verdict.Config (place_in path.now text.now fault.offset) fault.kind) }
+/// What the text means that a read gave. One that was too long to be read is a fault at its first byte.
+fn meaning_got(alloc: Global, path: &str, got: &ReadGot) -> Result<Meaning, NoMemory>
+    ensures { IfOk result (MeansGot path.now got.now) }
 {
-    let end = text.len() as u64;
-    let mut place = place_at(alloc, path, text, fault.offset.min(end))?;
-    place.offset = fault.offset;
-    Ok(Verdict::Config {
-        place,
-        kind: fault.kind,
-    })
-}
-
-/// The verdict of words on the tree that is read.
-pub fn decide<R: TreeReader>(
-    alloc: Global,
-    words: &[String],
-    reader: &mut R,
-) -> Result<Verdict, OutsideEnd>
-    ensures follows { R.follows reader.old reader.new }
-    ensures cause { IsErrOf result OutsideEnd.Failed → Rose (R.view reader.old).faults (R.view reader.new).faults }
-    ensures reportable { IfOk result CanReport }
-    ensures usage { DecidesUsage (map string_bytes words.now) result }
-    ensures told { Told (R.view reader.old).tree (λ tree. Decides (map string_bytes words.now) tree (R.view reader.old) (R.view reader.new) result) }
-{
-    let Some(config) = config_path(alloc, words)? else {
-        return Ok(Verdict::Usage);
-    };
-    match reader.read(alloc, config.get(), Why::Config, MAX_TEXT)? {
-        ReadGot::Whole(text) => decide_config(alloc, reader, config.get(), text.get()),
+    match got {
+        ReadGot::Whole(text) => meaning_of(alloc, path, text.get()),
         ReadGot::TooLong => {
             let fault = ConfigFault {
                 offset: 0,
                 kind: ConfigKind::TooLong,
             };
-            Ok(bad_config(alloc, config.get(), b"", fault)?)
+            placed(alloc, path, b"", fault)
         }
     }
+}
+
+fn meaning_of(alloc: Global, path: &str, text: &[u8]) -> Result<Meaning, NoMemory>
+    ensures { IfOk result (Means path.now text.now) }
+{
+    match read_config(alloc, text) {
+        Ok(config) => Ok(Meaning::Config(config)),
+        Err(ConfigEnd::Fault(fault)) => placed(alloc, path, text, fault),
+        Err(ConfigEnd::NoMemory) => Err(AllocError),
+    }
+}
+
+/// A fault of the configuration at its place. The line of an offset behind the text would be its last.
+fn placed(alloc: Global, path: &str, text: &[u8], fault: ConfigFault) -> Result<Meaning, NoMemory>
+    ensures { IfOk result (λ meaning. meaning ≡ Meaning.Fault (place_in path.now text.now fault.offset) fault.kind) }
+{
+    let end = text.len() as u64;
+    let mut place = place_at(alloc, path, text, fault.offset.min(end))?;
+    place.offset = fault.offset;
+    Ok(Meaning::Fault {
+        place,
+        kind: fault.kind,
+    })
 }

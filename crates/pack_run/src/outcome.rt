@@ -28,12 +28,16 @@ fn build(alloc: Global, modules: u32, sealed: Sealed) -> Result<Build, NoMemory>
     ensures { IfOk result (λ made. made ≡ build_of modules sealed) }
 {
     let stats = new_asset(alloc, "stats.json", sealed.stats)?;
+    let groups = sealed.groups;
     let chunks = sealed.chunks;
+    let splits = sealed.splits;
     let mut assets = sealed.assets;
     assets.push(stats)?;
     Ok(Build {
         modules,
+        groups,
         chunks,
+        splits,
         assets,
     })
 }
@@ -91,7 +95,7 @@ fn sealed(
     }
 }
 
-pub fn outcome(
+pub(crate) fn outcome(
     alloc: Global,
     graph: &ModuleGraph,
     config: &Config,

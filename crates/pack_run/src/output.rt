@@ -8,7 +8,7 @@ use outside::{Asset, AssetSink, LineSink, OutsideEnd};
 use std::alloc::Global;
 
 /// Puts the assets in order.
-pub fn put_all<S: AssetSink>(
+pub(crate) fn put_all<S: AssetSink>(
     alloc: Global,
     sink: &mut S,
     assets: &[Asset],
@@ -24,7 +24,7 @@ pub fn put_all<S: AssetSink>(
 }
 
 /// Prints the lines in order.
-pub fn print_all<L: LineSink>(
+pub(crate) fn print_all<L: LineSink>(
     alloc: Global,
     lines: &mut L,
     texts: &[Bytes],

@@ -10,7 +10,7 @@ use crate::{End, Verdict};
 use outside::{AssetSink, LineSink, OutsideEnd};
 use std::alloc::Global;
 
-fn end_of(verdict: &Verdict) -> End
+pub(crate) fn end_of(verdict: &Verdict) -> End
     requires { CanReport verdict.now }
     ensures { result ≡ end_by verdict.now }
 {
@@ -42,7 +42,7 @@ fn put_assets<S: AssetSink>(
 }
 
 /// Puts the assets of a verdict and prints its lines.
-pub fn report<S: AssetSink, L: LineSink>(
+pub(crate) fn report<S: AssetSink, L: LineSink>(
     alloc: Global,
     verdict: &Verdict,
     sink: &mut S,

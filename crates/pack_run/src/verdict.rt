@@ -5,7 +5,7 @@ use pack_config::ConfigKind;
 /// What a build of a tree comes to, whoever reads the tree and however often a call fails.
 #[derive(Debug, Drop)]
 pub enum Verdict {
-    /// The words aren't those of a build.
+    /// The words are refused.
     Usage,
     /// The configuration's text has no meaning.
     Config { place: Place, kind: ConfigKind },
@@ -20,6 +20,8 @@ pub enum Verdict {
 #[derive(Debug, Drop)]
 pub struct Build {
     pub modules: u32,
+    pub groups: u32,
     pub chunks: u32,
+    pub splits: u32,
     pub assets: Seq<Asset>,
 }

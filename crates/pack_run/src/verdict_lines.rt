@@ -9,6 +9,9 @@ use pack_config::ConfigKind;
 use pack_util::{add, add_around, add_number};
 use std::alloc::Global;
 
+const USAGE: &[u8] =
+    b"usage: chunkpack build CONFIG [--workers N] | chunkpack sample N [--workers N]";
+
 fn kind_name(kind: ConfigKind) -> &'static [u8]
     ensures { result.now ≡ config_kind_name kind }
 {
@@ -82,7 +85,7 @@ fn built_line(alloc: Global, build: &Build) -> Result<Bytes, NoMemory>
     Ok(Bytes::from_vec(line))
 }
 
-fn one(alloc: Global, line: Bytes) -> Result<Vec<Bytes>, NoMemory>
+pub(crate) fn one(alloc: Global, line: Bytes) -> Result<Vec<Bytes>, NoMemory>
     ensures { IfOk result (λ lines. lines.items ≡ line ∷ []) }
 {
     let mut lines = Vec::new(alloc);
@@ -95,7 +98,7 @@ pub fn verdict_lines(alloc: Global, verdict: &Verdict) -> Result<Vec<Bytes>, NoM
     ensures { IfOk result (λ lines. lines.items ≡ lines_of verdict.now) }
 {
     match verdict {
-        Verdict::Usage => one(alloc, Bytes::new(alloc, b"usage: chunkpack build CONFIG")?),
+        Verdict::Usage => one(alloc, Bytes::new(alloc, USAGE)?),
         Verdict::Config { place, kind } => one(alloc, config_line(alloc, place, *kind)?),
         Verdict::Limit(limit) => one(alloc, limit_line(alloc, *limit)?),
         Verdict::Faults(faults) => fault_lines(alloc, faults.as_slice()),

@@ -1,15 +1,17 @@
 //! Commands carried out in memory. A line `T` of the input begins a tree. In it `F PATH|TEXT` is a file, and `R PATH|N|TEXT` a file
-//! of N times the text; in a text `\xHH` is a byte and `\\` a backslash. `W WORDS` carries out the command of these words. The output has
-//! what it printed, its status, and the name of each asset. `A NAME` shows the text of an asset of the last
-//! command, of an entry's from its public path on, and `L` which files were read as modules. Each other line of the output is one of the
-//! input. Where the expected answers come from: docs/PROMISES.md.
+//! of N times the text; in a text `\xHH` is a byte and `\\` a backslash. `W WORDS` carries out the command of these words, and `W` that
+//! of none. Of the commands behind it, `N NUMBER` says by how many readers, where there is one else, and `X NUMBER` in which call
+//! their sinks fail. The output has what a command printed, its status, and the name of each asset. `A NAME` shows the text of an
+//! asset of the last command, of an entry's from its public path on, `L` which files were read as modules, in byte order, as
+//! often as they were read by all readers, and `=` whether its assets are those of the command before. Each other line of the
+//! output is one of the input. Where the expected answers come from: docs/PROMISES.md.
 #![tactic(auto)]
 
 use outside::{MemLines, MemReader, MemSink, MemTree, TreeEnd, Why};
 use pack_run::{End, run};
 use std::alloc::{AllocError, Global};
 use std::thread::Threads;
-use std::{io, str};
+use std::{io, mem, str};
 use test_escapes::unescaped;
 
 /// What comes before the public path in the text of an entry's chunk.
@@ -53,6 +55,9 @@ fn add_bytes(output: &mut String, bytes: &[u8]) -> Result<(), AllocError> {
 
 fn owned(alloc: Global, words: &str) -> Result<Vec<String>, AllocError> {
     let mut owned = Vec::new(alloc);
+    if words.is_empty() {
+        return Ok(owned);
+    }
     for word in words.split(' ') {
         owned.push(String::from_str(alloc, word)?)?;
     }
@@ -97,23 +102,68 @@ fn asset(output: &mut String, sink: &MemSink, name: &str) -> Result<(), AllocErr
     Ok(())
 }
 
-fn reads(output: &mut String, readers: &[MemReader<'_>]) -> Result<(), AllocError> {
+/// The paths of the files that were read as modules, in byte order.
+fn reads(alloc: Global, output: &mut String, readers: &[MemReader<'_>]) -> Result<(), AllocError> {
+    let mut paths = Vec::new(alloc);
     for reader in readers {
-        for (path, why) in reader.log() {
-            if *why == Why::Module {
-                write!(output, "read {}\n", path.get())?;
-            }
+        add_modules(&mut paths, reader)?;
+    }
+    paths.sort_unstable();
+    for path in paths.as_slice() {
+        write!(output, "read {path}\n")?;
+    }
+    Ok(())
+}
+
+fn add_modules<'a>(paths: &mut Vec<&'a str>, reader: &'a MemReader<'_>) -> Result<(), AllocError> {
+    for (path, why) in reader.log() {
+        if *why == Why::Module {
+            paths.push(path.get())?;
         }
     }
     Ok(())
 }
 
-/// The answers to the lines of one tree.
-fn answers<Rt: Threads + Sync>(
+/// How commands are carried out: by so many readers, and by a sink that fails in these calls.
+#[derive(Drop)]
+struct Setting {
+    readers: u32,
+    failing: Vec<u64>,
+}
+
+/// What commands have left: the readers and the sink of the last, and the sink of the one before.
+#[derive(Drop)]
+struct Left<'a> {
+    readers: Vec<MemReader<'a>>,
+    sink: MemSink,
+    before: MemSink,
+}
+
+fn carry_out<'a, Rt: Threads + Sync>(
     rt: &Rt,
     alloc: Global,
-    lines: &[String],
-) -> Result<String, AllocError> {
+    tree: &'a MemTree,
+    setting: &Setting,
+    words: &str,
+    left: &mut Left<'a>,
+    output: &mut String,
+) -> Result<(), AllocError> {
+    let words = owned(alloc, words)?;
+    let mut readers = Vec::new(alloc);
+    readers.push(MemReader::new(alloc, tree))?;
+    for _ in 1..setting.readers {
+        readers.push(MemReader::new(alloc, tree))?;
+    }
+    let mut sink = MemSink::failing(alloc, setting.failing.to_vec(alloc)?);
+    let mut lines = MemLines::new(alloc);
+    let end = run(rt, alloc, &words, &mut readers, &mut sink, &mut lines);
+    shown(output, &end, &lines, &sink)?;
+    left.readers = readers;
+    left.before = mem::replace(&mut left.sink, sink);
+    Ok(())
+}
+
+fn tree_of(alloc: Global, lines: &[String]) -> Result<MemTree, AllocError> {
     let mut tree = MemTree::new(alloc);
     for line in lines {
         match line.as_str().split_once(' ') {
@@ -122,24 +172,50 @@ fn answers<Rt: Threads + Sync>(
             _ => {}
         }
     }
+    Ok(tree)
+}
+
+fn compare(output: &mut String, left: &Left<'_>) -> Result<(), AllocError> {
+    if left.sink.held() == left.before.held() {
+        output.push_str("the same assets\n")
+    } else {
+        output.push_str("other assets\n")
+    }
+}
+
+/// The number of a line that sets one, or else 1.
+fn number_of(given: &str) -> u32 {
+    given.parse::<u32>().unwrap_or(1)
+}
+
+/// The answers to the lines of one tree.
+fn answers<Rt: Threads + Sync>(
+    rt: &Rt,
+    alloc: Global,
+    lines: &[String],
+) -> Result<String, AllocError> {
+    let tree = tree_of(alloc, lines)?;
     let mut output = String::new(alloc);
-    let mut sink = MemSink::new(alloc);
-    let mut readers = Vec::new(alloc);
+    let mut setting = Setting {
+        readers: 1,
+        failing: Vec::new(alloc),
+    };
+    let mut left = Left {
+        readers: Vec::new(alloc),
+        sink: MemSink::new(alloc),
+        before: MemSink::new(alloc),
+    };
     for line in lines {
-        match line.as_str().split_once(' ') {
-            Some(("F" | "R", _)) => {}
-            Some(("W", words)) => {
-                let words = owned(alloc, words)?;
-                readers = Vec::new(alloc);
-                readers.push(MemReader::new(alloc, &tree))?;
-                sink = MemSink::new(alloc);
-                let mut printed = MemLines::new(alloc);
-                let end = run(rt, alloc, &words, &mut readers, &mut sink, &mut printed);
-                shown(&mut output, &end, &printed, &sink)?;
-            }
-            Some(("A", name)) => asset(&mut output, &sink, name)?,
-            _ if line.as_str() == "T" => {}
-            _ if line.as_str() == "L" => reads(&mut output, &readers)?,
+        let line = line.as_str();
+        let (name, given) = line.split_once(' ').unwrap_or((line, ""));
+        match name {
+            "T" | "F" | "R" => {}
+            "N" => setting.readers = number_of(given),
+            "X" => setting.failing.push(number_of(given) as u64)?,
+            "W" => carry_out(rt, alloc, &tree, &setting, given, &mut left, &mut output)?,
+            "A" => asset(&mut output, &left.sink, given)?,
+            "L" => reads(alloc, &mut output, &left.readers)?,
+            "=" => compare(&mut output, &left)?,
             _ => write!(output, "{line}\n")?,
         }
     }

@@ -7,7 +7,7 @@ const USAGE: Want<'static> = Want {
     end: End::Usage,
     status: 2,
     held: 0,
-    printed: "usage: chunkpack build CONFIG\n",
+    printed: "usage: chunkpack build CONFIG [--workers N] | chunkpack sample N [--workers N]\n",
 };
 
 const MISSING: Want<'static> = Want {

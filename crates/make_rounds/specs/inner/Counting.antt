@@ -1,4 +1,4 @@
--- What the modules of a build count while they are gathered (this project).
+-- What the modules of a build count, one after another (this project).
 use Rattle.std.specs.Prelude.{ℕ, ◌+◌, ◌<◌, ◌≤◌, List, length, nat_lt, if◌then◌else◌}
 use Rattle.fault_place.specs.Limit.{number_of}
 use Rattle.fault_place.specs.declared.limit.Limit.{Limit}
@@ -11,13 +11,17 @@ use Rattle.make_rounds.specs.declared.counts.Counts.{Counts}
 abbrev pub counts_of : List ModRecord → Counts
 counts_of records = record { modules = counted records Modules; text_bytes = counted records TextBytes; items = counted records Items; blocks = counted records Blocks }
 
--- one file more, of so many bytes
-abbrev pub with_module : Counts → ℕ → Counts
-with_module counts bytes = record counts { modules = counts.modules + 1; text_bytes = counts.text_bytes + (if nat_lt MAX_TEXT bytes then 0 else bytes) }
+-- the bytes that are read of a file of so many
+abbrev pub bytes_read : ℕ → ℕ
+bytes_read bytes = if nat_lt MAX_TEXT bytes then 0 else bytes
 
--- and its record
+-- one file more, of so many bytes
+abbrev pub with_file : Counts → ℕ → Counts
+with_file counts bytes = record counts { modules = counts.modules + 1; text_bytes = counts.text_bytes + bytes_read bytes }
+
+-- one record more
 abbrev pub with_record : Counts → ModRecord → Counts
-with_record counts rec = record counts { items = counts.items + length rec.items; blocks = counts.blocks + lazy_items rec }
+with_record counts rec = record (with_file counts rec.size) { items = counts.items + length rec.items; blocks = counts.blocks + lazy_items rec }
 
 -- what a limit counts
 abbrev pub count_at : Counts → Limit → ℕ

@@ -1,30 +1,21 @@
--- The files that a build has found (this project): each once, in the order in which they were found.
-use Rattle.std.specs.Prelude.{◌≡◌, ℕ, ◌<◌, Bool, List, [], ◌∷◌, ◌++◌, length, nat_eq, count_by, slice_index_or, false, if◌then◌else◌}
-use Rattle.std.specs.List.{list_any, AllByRecursion, IsDistinct}
+-- The files that a build has found, and what is counted of them before they are read (this project).
+use Rattle.std.specs.Prelude.{◌≡◌, ℕ, Bool, List, length}
+use Rattle.std.specs.List.{sum_by}
+use Rattle.tree_listing.specs.Listing.{length_at}
+use Rattle.make_rounds.specs.declared.counts.Counts.{Counts}
+use Rattle.make_rounds.specs.declared.found.Found.{Found}
+use Rattle.make_rounds.specs.inner.Counting.{bytes_read}
+use Rattle.make_rounds.specs.inner.Places.{places_where}
 
--- the files found, of so many
-pub record Finding : Type 0 where
-  pub of : ℕ
-  pub files : List ℕ
+-- the files that a row marks, in order
+abbrev pub marked : List Bool → List ℕ
+marked row = places_where (λ mark. mark) 0 row
 
--- a file and those found before it
-abbrev pub with_number : List ℕ → ℕ → List ℕ
-with_number files file = if list_any (nat_eq file) files then files else files ++ file ∷ []
+-- what is counted of files by their lengths
+abbrev pub file_counts : List (List ℕ × ℕ) → List ℕ → Counts
+file_counts listed files = record { modules = length files; text_bytes = sum_by (λ file. bytes_read (length_at listed file)) files; items = 0; blocks = 0 }
 
-abbrev pub with_finding : Finding → ℕ → Finding
-with_finding finding file = record finding { files = with_number finding.files file }
-
--- files one after another
-abbrev pub with_numbers : List ℕ → List ℕ → List ℕ
-with_numbers files [] = files
-with_numbers files (more ∷ rest) = with_numbers (with_number files more) rest
-
-abbrev pub with_files : Finding → List ℕ → Finding
-with_files finding more = record finding { files = with_numbers finding.files more }
-
--- a row marks these files and no others
-pub record IsMarked (row : List Bool) (files : List ℕ) : Type 0 where
-  pub marks : (file : ℕ) → file < length row → slice_index_or row file false ≡ list_any (nat_eq file) files
-  pub within : AllByRecursion (λ file. file < length row) files
-  pub distinct : IsDistinct nat_eq files
-  pub count : count_by (λ marked. marked) row ≡ length files
+-- each file of a listing has a mark, and what is counted is that of the marked files
+pub record IsCounted (listed : List (List ℕ × ℕ)) (found : Found) : Type 0 where
+  pub as_many : length found.marks ≡ length listed
+  pub counts : found.counts ≡ file_counts listed (marked found.marks)

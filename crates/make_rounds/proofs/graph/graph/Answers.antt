@@ -6,7 +6,7 @@ use Rattle.std.specs.Prelude.{flat_map}
 use Rattle.graph_types.specs.Edges.{HasFewItems}
 use Rattle.graph_types.specs.Modules.{Graph}
 use Rattle.graph_types.specs.declared.record.ModRecord.{ModRecord}
-use Rattle.make_rounds.specs.inner.Gathered.{IsGraphFrom}
+use Rattle.make_rounds.specs.inner.Closed.{IsGraphFrom}
 use Rattle.make_rounds.proofs.graph.graph.Goals as goal
 
 pub from_records-requires-clause-modules : goal.from_records-requires-clause-modules

@@ -1,13 +1,18 @@
-use Rattle.std.proofs.Common.{◌≡◌, ◌<◌, false, map, length, get_or, sym, ◌∙◌, rules}
-use Rattle.std.proofs.lemmas.List.{map-append}
-use Rattle.fault_place.specs.declared.number.FileId.{FileId}
-use Rattle.make_rounds.proofs.Marks.{marked_more}
+use Rattle.std.proofs.Common.{sym, ◌∙◌}
+use Rattle.make_rounds.proofs.Counting.{counted_next, held_next}
 use Rattle.make_rounds.proofs.found.Found.add.Goals as goal
 
-pub invariant_of-self-2 : goal.invariant_of-self-2
-invariant_of-self-2 c =
-    let row = c.self.inside.seen in
-    let files = map (λ (file : FileId). file.0) c.self.inside.files.items in
-    let within : c.args.file.0 < length row = search rules in
-    let fresh : get_or row c.args.file.0 false ≡ false = sym c.get.ensures ∙ c.if-get.false in
-    rw (c.set.ensures, c.in_ok-push.ensures.items, map-append) (marked_more row files c.args.file.0 c.self.invariant within fresh)
+pub returns-in-Some-clause-counted : goal.returns-in-Some-clause-counted
+returns-in-Some-clause-counted c =
+    counted_next c.args.listing.now.files c.loop-file.self _ c.args.files.now c.loop-file.file-index _ c.set.ensures c.loop-file-test.true _ _ c.length.ensures c.with_file-self.ensures c.loop-file.invariant.counted c.requires.within (sym c.get.ensures ∙ c.if-get.false)
+
+pub returns-in-Some-clause-among : goal.returns-in-Some-clause-among
+returns-in-Some-clause-among c = λ set old all.
+    held_next c.args.listing.now.files c.loop-file.self _ c.args.files.now c.loop-file.file-index _ c.set.ensures c.loop-file-test.true set all (c.loop-file.invariant.among set old all)
+
+pub loop-file-preserved : goal.loop-file-preserved
+loop-file-preserved c = record {
+  counted = counted_next c.args.listing.now.files c.loop-file.self _ c.args.files.now c.loop-file.file-index _ c.set.ensures c.loop-file-test.true _ _ c.length.ensures c.with_file-self.ensures c.loop-file.invariant.counted c.requires.within (sym c.get.ensures ∙ c.if-get.false);
+  allowed = c.in_default.ensures;
+  among = λ set old all. held_next c.args.listing.now.files c.loop-file.self _ c.args.files.now c.loop-file.file-index _ c.set.ensures c.loop-file-test.true set all (c.loop-file.invariant.among set old all);
+}

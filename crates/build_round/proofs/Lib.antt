@@ -1,0 +1,6 @@
+mod Kept
+mod Lists
+mod Seats
+mod Sharing
+mod Together
+mod Works

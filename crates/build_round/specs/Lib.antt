@@ -1,0 +1,13 @@
+pub use Rattle.claim_board.specs.Claims
+pub use Rattle.graph_types.specs.Targets
+pub use Rattle.module_build.specs.Readings
+pub use Rattle.module_build.specs.Record
+pub use Rattle.module_build.specs.Shape
+pub use Rattle.outside.specs.Logs
+pub use Rattle.outside.specs.Tree
+pub use Rattle.outside.specs.Views
+pub use Rattle.resolve_path.specs.Caches
+pub use Rattle.tree_listing.specs.Listing
+pub mod inner
+pub mod Readers
+pub mod Rounds
