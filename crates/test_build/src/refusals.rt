@@ -64,7 +64,7 @@ const WORDS: [(&[&str], Want<'static>); 12] = [
     (&[], USAGE),
     (&["build"], USAGE),
     (&["c.json"], USAGE),
-    (&["sample", "4"], USAGE),
+    (&["sample", "0"], USAGE),
     (&["build", ""], USAGE),
     (&["build", "../c.json"], USAGE),
     (&["build", "/c.json"], USAGE),
