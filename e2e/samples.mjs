@@ -52,6 +52,12 @@ function checkWorkers() {
   }
 }
 
+// The largest sample there is.
+function checkLargest() {
+  const line = sampleLine(20_000, 4);
+  assert.ok(line.endsWith(`hash ${hashOf(built(20_000, 1))}\n`), line);
+}
+
 function checkBuilds() {
   const one = built(500, 1);
   for (const workers of [2, 7, 32]) assert.deepEqual(built(500, workers), one, `${workers} workers`);
@@ -60,5 +66,6 @@ function checkBuilds() {
 export async function checkSamples(tally) {
   await tally.check('samples tell the hash of the same tree in a folder', checkCounts);
   await tally.check('a sample is the same by any number of workers', checkWorkers);
+  await tally.check('the largest sample', checkLargest);
   await tally.check('a build is the same by any number of workers', checkBuilds);
 }
