@@ -109,6 +109,23 @@ function secondName() {
   assert.equal(fs.readFileSync(path.join(folder, 'kept.txt'), 'utf8'), 'kept');
 }
 
+// A build again leaves the files that would be as they are, and replaces those that wouldn't.
+function sameBytesStay() {
+  const folder = projectOf({ ...CHANGED, 'c.json': '{"entry":{"one":"./src/index.js","two":"./src/a.js"}}' });
+  const numbers = () => ['one.js', 'two.js', 'stats.json'].map((name) => fs.statSync(path.join(folder, 'dist', name)).ino);
+  const two = { status: 0, printed: 'built: 2 modules, 2 chunks, 3 assets\n' };
+  assert.deepEqual(build(folder), two);
+  const before = numbers();
+  assert.deepEqual(build(folder), two);
+  assert.deepEqual(numbers(), before);
+  fs.writeFileSync(path.join(folder, 'src', 'index.js'), 'import "./a.js";;');
+  assert.deepEqual(build(folder), two);
+  const after = numbers();
+  assert.notEqual(after[0], before[0], 'one.js is new');
+  assert.equal(after[1], before[1], 'two.js is not');
+  assert.ok(fs.readFileSync(path.join(folder, 'dist', 'one.js'), 'utf8').includes(';;'), 'one.js has the new text');
+}
+
 function assetIsPipe() {
   const folder = projectOf({ ...PROJECT, 'dist/other.txt': 'other' });
   makePipe(path.join(folder, 'dist', 'main.js'));
@@ -236,6 +253,7 @@ export async function checkPlaces(tally) {
   }
   await tally.check('links in the place of assets are replaced', linkedAssets);
   await tally.check('a second name in the place of an asset', secondName);
+  await tally.check('files that are already as they would be written', sameBytesStay);
   await tally.check('a dist that is a link', linkedDist);
   await tally.check('a folder in the place of an asset', folderInTheWay);
   await tally.check('names of unfinished files that are taken', spareNamesTaken);

@@ -1,5 +1,5 @@
 use crate::faults::counted;
-use crate::system::{make_place_below, replace};
+use crate::system::{holds, make_place_below, replace};
 use fault_place::Text;
 use outside::{AssetSink, OutsideEnd};
 use path_text::parent;
@@ -9,7 +9,7 @@ use std::{fs, io};
 
 /// Writes each asset as a file below a folder of the system, which is made where it isn't there.
 ///
-/// A file is replaced whole. What a failed call had begun is removed.
+/// A file is replaced whole, and one that holds the asset's bytes already stays. What a failed call had begun is removed.
 #[derive(Drop)]
 pub struct DirSink<F> {
     rt: F,
@@ -27,7 +27,7 @@ impl<F> DirSink<F> {
     }
 }
 
-impl<F: Files> DirSink<F> {
+impl<F: Files + AllocGlobal> DirSink<F> {
     /// Writes the file of an asset. The folders that are made for it join `made`.
     fn write(
         &self,
@@ -37,6 +37,9 @@ impl<F: Files> DirSink<F> {
         made: &mut Vec<String>,
     ) -> io::Result<()> {
         let place = make_place_below(&self.rt, alloc, self.folder.get(), name, made)?;
+        if holds(&self.rt, alloc, place.as_str(), bytes) {
+            return Ok(());
+        }
         let folder = parent(place.as_str());
         replace(&self.rt, alloc, folder, place.as_str(), bytes)
     }
@@ -50,7 +53,7 @@ impl<F: Files> DirSink<F> {
     }
 }
 
-impl<F: Files> AssetSink for DirSink<F> {
+impl<F: Files + AllocGlobal> AssetSink for DirSink<F> {
     ghost use Rattle.std.specs.Prelude.{None};
 
     ghost view = { λ sink. record { held = None; faults = sink.faults } };

@@ -2,7 +2,7 @@
 use path_text::{child, is_normal};
 use std::alloc::Global;
 use std::fs::File;
-use std::io::{ErrorKind, Write};
+use std::io::{ErrorKind, Read, Write};
 use std::rt::Files;
 use std::{fs, io};
 
@@ -74,6 +74,20 @@ pub fn open_plain<F: Files>(files: &F, place: &str) -> io::Result<F::File> {
         return Err(ErrorKind::InvalidInput.into());
     }
     fs::open(files, place)
+}
+
+/// Whether a place is a file's own and the file holds these bytes. One that can't be read doesn't.
+pub fn holds<F: Files + AllocGlobal>(files: &F, alloc: Global, place: &str, bytes: &[u8]) -> bool {
+    match fs::symlink_metadata(files, place) {
+        Ok(found) if found.is_file() && found.len() == bytes.len() as u64 => {}
+        _ => return false,
+    }
+    let Ok(file) = fs::open(files, place) else {
+        return false;
+    };
+    let mut held = Vec::new(alloc);
+    let read = file.take(bytes.len() as u64).read_to_end(&mut held);
+    read.is_ok() && held.as_slice() == bytes
 }
 
 /// Gives a name of a folder to a new file, once all bytes are written. What has the name keeps it until then, and is

@@ -8,7 +8,7 @@ ghost use Rattle.split_plan.specs.Shares.{meets};
 ghost use Rattle.split_plan.specs.inner.Rows.{columns_of};
 ghost use Rattle.split_plan.specs.inner.Search.{IsSearch, goes_with};
 
-use crate::columns::chunk_columns;
+use crate::columns::{blank_rows, chunk_columns};
 use crate::form::{Form, all_sharers, size_of};
 use crate::named::named_rows;
 use crate::unnamed::goes_with;
@@ -111,7 +111,8 @@ pub fn claim(
     };
     let rule = &plan.rules()[cache_group as usize];
     let columns = chunk_columns(alloc, state, plan.width())?;
-    let shares = all_sharers(alloc, rule, forced, state, &columns)?;
+    let mut shares = blank_rows(alloc, plan.width(), state.count())?;
+    all_sharers(alloc, rule, forced, state, &columns, &mut shares)?;
     let Some(modules) = claimed_modules(alloc, plan, state, form, rule, &shares, &chunks)? else {
         return Ok(None);
     };

@@ -8,7 +8,8 @@ use chunk_graph::ChunkGraph;
 use fault_place::{ChunkNo, NoMemory};
 use std::alloc::Global;
 
-fn blank_rows(alloc: Global, count: usize, len: u32) -> Result<Vec<BitRow>, NoMemory>
+/// Rows of one length with no true place.
+pub(crate) fn blank_rows(alloc: Global, count: usize, len: u32) -> Result<Vec<BitRow>, NoMemory>
     ensures { IfOk result (λ rows. rows.items ≡ replicate count (replicate len false)) }
 {
     let mut rows = Vec::new(alloc);

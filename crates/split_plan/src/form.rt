@@ -1,11 +1,11 @@
 //! The candidates of one cache group in one form: how they are made from a set of chunks.
-ghost use Rattle.std.specs.Prelude.{◌≡◌, ℕ, ◌<◌, ◌≤◌, ◌^◌, false, length, map, slice_index, slice_index_or, sum, IfOk, MatchOption};
+ghost use Rattle.std.specs.Prelude.{◌≡◌, ℕ, ◌<◌, ◌≤◌, ◌^◌, false, length, map, slice_index, slice_index_or, sum, IfOk, MatchOption, OnOk};
 ghost use Rattle.std.specs.List.{range_with_len};
 ghost use Rattle.bit_rows.specs.Places.{meet};
 ghost use Rattle.chunk_graph.specs.Chunks.{is_in, count};
 ghost use Rattle.split_plan.specs.Candidates.{size_of, bound_of};
 ghost use Rattle.split_plan.specs.Shares.{allowed_row, sharers, is_reached};
-ghost use Rattle.split_plan.specs.inner.Rows.{columns_of};
+ghost use Rattle.split_plan.specs.inner.Rows.{columns_of, AreChunkRows};
 
 use crate::Rule;
 use crate::allowed::allowed_chunks;
@@ -50,32 +50,34 @@ pub fn is_large(rule: &Rule, forced: bool, size: u64) -> bool
     }
 }
 
-fn share(alloc: Global, allowed: &BitRow, column: &BitRow) -> Result<BitRow, NoMemory>
-    requires { length column.now ≡ length allowed.now }
-    ensures { IfOk result (λ row. row ≡ meet allowed.now column.now) }
+fn fill_share(row: &mut BitRow, allowed: &BitRow, column: &BitRow)
+    requires row { length row.old ≡ length allowed.now }
+    requires column { length column.now ≡ length allowed.now }
+    ensures { row.new ≡ meet allowed.now column.now }
 {
-    let mut row = copy_row(alloc, allowed)?;
+    row.copy_from(allowed);
     row.meet_with(column);
-    Ok(row)
 }
 
-/// For each module the chunks that share it in the form.
+/// Makes the rows, one for each module, the chunks that share it in the form.
 pub fn all_sharers(
     alloc: Global,
     rule: &Rule,
     forced: bool,
     state: &ChunkGraph,
     columns: &[BitRow],
-) -> Result<Vec<BitRow>, NoMemory>
-    requires { columns.now ≡ columns_of state.now (length columns.now) }
-    ensures { IfOk result (λ rows. rows.items ≡ map (sharers rule.now forced state.now) (range_with_len 0 (length columns.now))) }
+    shares: &mut Vec<BitRow>,
+) -> Result<(), NoMemory>
+    requires columns { columns.now ≡ columns_of state.now (length columns.now) }
+    requires rows { AreChunkRows state.now (length columns.now) shares.old.items }
+    ensures { OnOk result (shares.new.items ≡ map (sharers rule.now forced state.now) (range_with_len 0 (length columns.now))) }
 {
     let allowed = allowed_chunks(alloc, rule, forced, state)?;
-    let mut rows = Vec::new(alloc);
     for module in 0..columns.len() {
-        rows.push(share(alloc, &allowed, &columns[module])?)?;
+        let row = &mut shares[module];
+        fill_share(row, &allowed, &columns[module]);
     }
-    Ok(rows)
+    Ok(())
 }
 
 pub fn copy_row(alloc: Global, row: &BitRow) -> Result<BitRow, NoMemory>

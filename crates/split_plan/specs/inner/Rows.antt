@@ -1,5 +1,5 @@
 -- Rows that the search for candidates works with (this project).
-use Rattle.std.specs.Prelude.{◌≡◌, ℕ, ◌-◌, Bool, ◌&&◌, List, length, map, take, drop, Option}
+use Rattle.std.specs.Prelude.{◌≡◌, ℕ, ◌-◌, ◌<◌, Bool, ◌&&◌, List, [], slice_index_or, length, map, take, drop, Option}
 use Rattle.std.specs.List.{filter, list_any, range_with_len}
 use Rattle.chunk_graph.specs.Chunks.{State, is_in, holds, has}
 use Rattle.split_plan.specs.Shares.{is_reached}
@@ -13,6 +13,11 @@ column s m = chunk_row s (λ i. holds s i m)
 
 abbrev pub columns_of : State → ℕ → List (List Bool)
 columns_of s width = map (column s) (range_with_len 0 width)
+
+-- as many rows as this, each with a place for each chunk
+pub record AreChunkRows (s : State) (width : ℕ) (rows : List (List Bool)) : Type 0 where
+  pub len : length rows ≡ width
+  pub lens : (m : ℕ) → m < width → length (slice_index_or rows m []) ≡ length s.chunks
 
 -- the chunks of the groups from `low` on and below `high` that have at least so many
 abbrev pub reached_in : Option ℕ → ℕ → ℕ → State → ℕ → Bool

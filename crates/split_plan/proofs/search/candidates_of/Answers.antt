@@ -12,8 +12,11 @@ loop-cache_group-preserved c =
     let k = c.loop-cache_group.cache_group in
     let P : List Candidate → Type 0 = λ xs. Lists (IsBeforeForced p s k) xs in
     let Q : List Candidate → Type 0 = λ xs. Lists (IsOfGroupBelow p s (k + 1)) xs in
-    let first = subst P (sym c.in_ok-append.ensures.items) (with_limited p s k _ _ c.loop-cache_group.invariant c.in_ok-more.ensures) in
-    subst Q (sym c.in_ok-append-2.ensures.items) (with_forced p s k _ _ first c.in_ok-more-2.ensures)
+    let first = subst P (sym c.in_ok-append.ensures.items) (with_limited p s k _ _ c.loop-cache_group.invariant.found c.in_ok-more.ensures.found) in
+    record {
+      found = subst Q (sym c.in_ok-append-2.ensures.items) (with_forced p s k _ _ first c.in_ok-more-2.ensures.found);
+      rows = c.in_ok-more-2.ensures.rows;
+    }
 
 pub returns : goal.returns
 returns c =
@@ -21,4 +24,4 @@ returns c =
     let s = c.args.state.now in
     let e : c.loop-cache_group.cache_group ≡ length p.rules = omega (arith, ap length c.rules.ensures) in
     let P : ℕ → Type 0 = λ n. Lists (IsOfGroupBelow p s n) c.loop-cache_group.found.items in
-    all_groups p s c.loop-cache_group.found.items (subst P e c.loop-cache_group.invariant)
+    all_groups p s c.loop-cache_group.found.items (subst P e c.loop-cache_group.invariant.found)
