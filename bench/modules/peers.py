@@ -43,7 +43,9 @@ def write_tree(folder, count):
 
 
 def run_once(folder, words):
-    """Wall and processor seconds and the peak of memory in MB of a command that ends well."""
+    """Wall and processor seconds and the peak of memory in MB of a command that ends well, where nothing was built before."""
+    for built in ("dist", "out"):
+        shutil.rmtree(f"{folder}/{built}", ignore_errors=True)
     start = time.perf_counter()
     child = os.posix_spawn(words[0], words, os.environ, file_actions=[
         (os.POSIX_SPAWN_OPEN, 1, os.devnull, os.O_WRONLY, 0), (os.POSIX_SPAWN_OPEN, 2, os.devnull, os.O_WRONLY, 0)])

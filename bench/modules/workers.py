@@ -2,21 +2,28 @@
 """Times builds by 1, 2 and 4 workers beside esbuild, where it is installed, in one run: the sample tree of 20,000 modules, and
 a tree of some thousand real modules.
 
-Usage: python3 workers.py [PROGRAM]. The real modules are those of packages below /usr/share (Debian's node-* and libjs-*).
+Usage: TMPDIR=/dev/shm python3 workers.py [PROGRAM]. On ext4 the file system's own work after files were removed is seen, not the
+build's. The real modules are those of packages below /usr/share (Debian's node-* and libjs-*).
 """
 import os
+import re
 import shutil
+import statistics
+import subprocess
 import sys
 import tempfile
 
-from peers import measure, write, write_tree
+from peers import run_once, write, write_tree
 from run import built_program
 
+PASSES = 15
 WORKERS = (1, 2, 4)
 SAMPLE = 20_000
 FOLDERS = ("/usr/share/nodejs", "/usr/share/javascript")
 # Packages whose modules name each other by relative paths, and where these lie.
 SOURCES = ("lodash", "lodash-es", "core-js", "rxjs", "graphql", "d3", "d3-array", "three", "date-fns", "immutable", "yaml", "semver", "uuid")
+# How esbuild builds the real modules.
+REAL_WORDS = ["--bundle", "--format=iife", "--outdir=out", "--platform=node", "--log-level=error", "all.js"]
 
 
 def modules_below(folder):
@@ -29,30 +36,37 @@ def modules_below(folder):
 
 
 def write_real(folder, program):
-    """Copies the packages that are there, and an entry that imports each of their modules that builds by itself."""
-    entries = []
+    """Copies the packages that are there, and writes an entry that imports a module for each package, which imports all of that
+    package's modules. A module that a bundler refuses is emptied."""
+    count = 0
+    indexes = []
     for package in SOURCES:
         for root in FOLDERS:
             source = f"{root}/{package}"
             if os.path.isdir(source):
                 target = f"{folder}/node_modules/{package}"
                 shutil.copytree(source, target, symlinks=False, ignore_dangling_symlinks=True)
-                entries += [f"./{os.path.relpath(path, folder)}" for path in modules_below(target)]
+                modules = sorted(os.path.relpath(path, folder) for path in modules_below(target))
+                indexes.append(f"all-{package}.js")
+                write_imports(f"{folder}/{indexes[-1]}", modules)
+                count += len(modules)
                 break
+    write_imports(f"{folder}/all.js", indexes)
     write(f"{folder}/c.json", '{"entry":"./all.js"}\n')
-    write_entry(folder, sorted(entries))
-    while faulty := faulty_modules(folder, program):
-        entries = [entry for entry in entries if entry[2:] not in faulty]
-        write_entry(folder, sorted(entries))
-    return len(entries)
+    emptied = set()
+    while refused := (faulty_modules(folder, program) | refused_by_esbuild(folder)) - emptied:
+        emptied |= refused
+        for path in refused:
+            write(f"{folder}/{path}", "")
+    return count, len(emptied)
 
 
-def write_entry(folder, entries):
-    write(f"{folder}/all.js", "".join(f'import "{entry}";\n' for entry in entries))
+def write_imports(place, paths):
+    write(place, "".join(f'import "./{path}";\n' for path in paths))
 
 
 def faulty_modules(folder, program):
-    """The modules of the entry that have faults, as the program tells them."""
+    """The modules that have faults, as the program tells them."""
     lines = os.popen(f"cd {folder} && {program} build c.json").read().splitlines()
     if lines and lines[-1].startswith("faults: "):
         return {line.split(":")[0] for line in lines[:-1]}
@@ -60,16 +74,31 @@ def faulty_modules(folder, program):
     return set()
 
 
+def refused_by_esbuild(folder):
+    """The modules in which esbuild sees errors, where it is installed."""
+    if not shutil.which("esbuild"):
+        return set()
+    told = subprocess.run(["esbuild", *REAL_WORDS, "--log-limit=0"], cwd=folder, capture_output=True, text=True, check=False).stderr
+    return set(re.findall(r"^ {4}(\S+):\d+:\d+:$", told, re.MULTILINE))
+
+
 def compare(program, folder, words, esbuild_words):
-    own = {}
+    """Prints the medians of some passes; in each pass each command runs once, so that a slow time of the machine is all of theirs."""
+    esbuild = shutil.which("esbuild") if esbuild_words else None
+    commands = {workers: [program, *words, "--workers", str(workers)] for workers in WORKERS}
+    if esbuild:
+        commands["esbuild"] = [esbuild, *esbuild_words]
+    os.chdir(folder)
+    runs = [{name: run_once(folder, command) for name, command in commands.items()} for _ in range(PASSES)]
+    middle = {name: [statistics.median(column) for column in zip(*(run[name] for run in runs))] for name in commands}
     for workers in WORKERS:
-        own[workers] = measure(folder, [program, *words, "--workers", str(workers)])
-        wall, processor, memory = own[workers]
+        wall, processor, memory = middle[workers]
         print(f"  {workers} workers: {wall:.3f} s, {processor:.3f} s of processor time, {memory:.0f} MB, "
-              f"{own[1][0] / wall:.2f} times as fast as one")
-    if (esbuild := shutil.which("esbuild")) and esbuild_words:
-        wall, processor, memory = measure(folder, [esbuild, *esbuild_words])
-        ratios = "; ".join(f"{workers}: {own[workers][0] / wall:.2f}, {own[workers][1] / processor:.2f}, {own[workers][2] / memory:.2f}" for workers in WORKERS)
+              f"{middle[1][0] / wall:.2f} times as fast as one")
+    if esbuild:
+        wall, processor, memory = middle["esbuild"]
+        ratios = "; ".join(
+            f"{workers}: {middle[workers][0] / wall:.2f}, {middle[workers][1] / processor:.2f}, {middle[workers][2] / memory:.2f}" for workers in WORKERS)
         print(f"  esbuild: {wall:.3f} s, {processor:.3f} s, {memory:.0f} MB; ratios by workers {ratios}")
 
 
@@ -83,9 +112,9 @@ def main():
         compare(program, folder, ["build", "c.json"], ["--bundle", "--splitting", "--format=esm", "--outdir=out", "--log-level=error", "src/m00000.js"])
         os.chdir("/")
     with tempfile.TemporaryDirectory(prefix="chunkpack-bench-") as folder:
-        count = write_real(folder, program)
-        print(f"{count} modules of real packages, and what they import")
-        compare(program, folder, ["build", "c.json"], ["--bundle", "--format=iife", "--outdir=out", "--platform=node", "--log-level=error", "all.js"])
+        count, emptied = write_real(folder, program)
+        print(f"{count} modules of real packages, {emptied} of them emptied, and what they import")
+        compare(program, folder, ["build", "c.json"], REAL_WORDS)
         os.chdir("/")
 
 
