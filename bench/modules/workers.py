@@ -16,7 +16,7 @@ import tempfile
 from peers import run_once, write, write_tree
 from run import built_program
 
-PASSES = 15
+PASSES = 11
 WORKERS = (1, 2, 4)
 SAMPLE = 20_000
 FOLDERS = ("/usr/share/nodejs", "/usr/share/javascript")
