@@ -1,6 +1,6 @@
-// The reasons that the page tells are those of the proved call: crates/runs_groups, where it is built, reads graphs and prints for each
-// group the modules that are placed in it, each with its load history. It takes 16 modules and 16 groups, so a larger graph is handed
-// to it with the modules that load and one other, and a group's reach in place of its roots.
+// The reasons that the page tells are those of the proved call: crates/runs_seal, where it is built, reads graphs and prints for each
+// group the modules that are placed in it, each with its load history. It takes 16 groups and asks for each pair of a group and a
+// module, so a large graph is handed to it with the modules that load and one other, and a group's reach in place of its roots.
 import assert from 'node:assert/strict';
 import { spawnSync } from 'node:child_process';
 import fs from 'node:fs';
@@ -11,7 +11,7 @@ import { Build } from '../view/src/build.mjs';
 import { Loads } from '../view/src/loads.mjs';
 import { whyPlaced } from '../view/src/reasons.mjs';
 
-const PROGRAM = path.join(repository, 'crates', 'runs_groups', 'out', 'runs_groups');
+const PROGRAM = path.join(repository, 'crates', 'runs_seal', 'out', 'runs_seal');
 const MOST = 16;
 const SMALL_PROJECTS = 100;
 
@@ -32,7 +32,7 @@ function lineOf(modules, groups) {
     return `m:${[...sync.map((target) => `i${target}`), ...loads.map((group) => `l${groups[group].roots[0] ?? 0}`)].join(',')}`;
   });
   const told = groups.map(({ entry, roots }, number) => (entry ? `e:${roots}` : `g:${roots}/${blocks[number]}`));
-  return [...words, ...told].join(' ');
+  return ['groups', ...words, ...told].join(' ');
 }
 
 function wholeLine({ modules, groups }) {
@@ -138,6 +138,6 @@ export async function checkReasons(tally) {
   ];
   for (const [name, body] of runs) {
     if (fs.existsSync(PROGRAM)) await tally.check(`reasons of the page are those of the proved call: ${name}`, body);
-    else tally.skip(`reasons of the page are those of the proved call: ${name}`, 'crates/runs_groups is not built');
+    else tally.skip(`reasons of the page are those of the proved call: ${name}`, 'crates/runs_seal is not built');
   }
 }

@@ -4,19 +4,28 @@ import { findBrowser } from './browser.mjs';
 import { checkProject } from './built.mjs';
 import { checkProgram } from './command.mjs';
 import { Browser } from './devtools.mjs';
+import { checkDoctor } from './doctor.mjs';
+import { checkDocuments } from './documents.mjs';
 import { checkEnds } from './ends.mjs';
+import { checkFromWebpack } from './from_webpack.mjs';
 import { checkInstall } from './install.mjs';
 import { checkLazy } from './lazy.mjs';
 import { checkLoading } from './loading.mjs';
+import { checkMigration } from './migration.mjs';
 import { checkNetwork } from './network.mjs';
+import { checkNpm } from './npm.mjs';
 import { checkPackages } from './packages.mjs';
 import { checkPlaces } from './places.mjs';
 import { projects } from './projects.mjs';
 import { checkReasons } from './reasons.mjs';
 import { checkRelease } from './release.mjs';
+import { checkRoutes } from './routes.mjs';
 import { checkSamples } from './samples.mjs';
+import { checkSchema } from './schema.mjs';
 import { Tally } from './tally.mjs';
 import { checkView } from './view.mjs';
+import { checkViewWith } from './view_with.mjs';
+import { checkWatch } from './watch.mjs';
 import { checkWords } from './words.mjs';
 
 // What is asked of one browser, page after page.
@@ -25,6 +34,8 @@ async function checkPages(tally, program) {
   try {
     await checkNetwork(tally, browser);
     await checkView(tally, browser);
+    await checkViewWith(tally, browser);
+    await checkRoutes(tally, browser);
   } finally {
     await browser?.close();
   }
@@ -45,7 +56,17 @@ if (tally.failed === 0) {
   await checkWords(tally);
   await checkSamples(tally);
   await checkPlaces(tally);
-  await checkInstall(tally);
-  await checkRelease(tally);
+  await checkDoctor(tally);
+  await checkDocuments(tally);
+  // bin/test tries them apart, by scripts.mjs.
+  if (!process.env.SCRIPTS_APART) {
+    await checkInstall(tally);
+    await checkNpm(tally);
+    await checkWatch(tally);
+    await checkRelease(tally);
+  }
+  await checkFromWebpack(tally);
+  await checkMigration(tally);
+  await checkSchema(tally);
 }
 process.exitCode = tally.finish();

@@ -12,7 +12,7 @@ const VIEW = path.join(repository, 'bin', 'view');
 const MOST_ELEMENTS = 1_500;
 const MANY = 20_000;
 
-function viewOf(folder, words = []) {
+export function viewOf(folder, words = []) {
   const env = process.env.CHUNKPACK ? { ...process.env, CHUNKPACK: command } : process.env;
   const { status, stdout, stderr } = spawnSync(VIEW, words, { cwd: folder, encoding: 'utf8', env });
   return { status, printed: stdout, told: stderr };
@@ -29,7 +29,7 @@ function shown(files) {
 }
 
 // The page as a user has it, and what is asked of it.
-class ViewPage {
+export class ViewPage {
   static async open(browser, index, scheme = 'light') {
     const page = await browser.openPage();
     await page.ask('Emulation.setEmulatedMedia', { features: [{ name: 'prefers-color-scheme', value: scheme }] });
@@ -95,7 +95,7 @@ class ViewPage {
   }
 }
 
-async function withPage(browser, index, scheme, body) {
+export async function withPage(browser, index, scheme, body) {
   const view = await ViewPage.open(browser, index, scheme);
   try {
     await body(view);
@@ -189,11 +189,11 @@ async function takesKeys(browser, { index, stats }) {
     const focused = () => view.page.evaluate('[document.activeElement.tagName, document.activeElement.getAttribute("role")].join(" ")');
     await view.page.evaluate('document.querySelector("input[type=search]").focus()');
     const seen = [];
-    for (let step = 0; step < 4; step++) {
+    for (let step = 0; step < 5; step++) {
       await view.page.press('Tab');
       seen.push(await focused());
     }
-    assert.deepEqual(seen, ['BUTTON ', 'BUTTON tab', 'CANVAS application', 'DIV listbox']);
+    assert.deepEqual(seen, ['BUTTON ', 'BUTTON ', 'BUTTON tab', 'CANVAS application', 'DIV listbox']);
     await view.page.press('ArrowDown', 'ArrowDown', 'Enter');
     await view.page.until('document.querySelector(".reason")');
     const first = stats.chunks[0].modules.map((number) => stats.modules[number]).sort((one, other) => other.size - one.size)[0];
@@ -252,7 +252,7 @@ function noFolder() {
   const folder = projectOf(failing);
   assert.equal(chunkpack(folder, ['build', 'c.json']).status, 1);
   assert.deepEqual(viewOf(folder), { status: 1, printed: '', told: 'view: dist is no folder: build first, or name the folder with stats.json\n' });
-  assert.deepEqual(viewOf(folder, ['one', 'two']), { status: 2, printed: '', told: 'usage: bin/view [DIST]\n' });
+  assert.deepEqual(viewOf(folder, ['one', 'two']), { status: 2, printed: '', told: 'usage: bin/view [DIST] [--with STATS]\n' });
 }
 
 // A dist in which a build that failed has left nothing.

@@ -18,16 +18,21 @@ export class Details {
   }
 
   show(choice) {
-    if (choice.module) this.showModule(choice);
+    if (choice.change) this.showChange(choice);
+    else if (choice.module) this.showModule(choice);
     else if (choice.chunk) this.showChunk(choice.chunk);
     else if (choice.split) this.showSplit(choice.split);
     else this.showLater(choice, (part) => this.fill(...part.groupDetails(this.page, choice.group)));
   }
 
+  showChange(choice) {
+    this.showLater(choice, (part) => this.fill(...part.changeDetails(this.page, choice.change)), () => this.page.comparedPart());
+  }
+
   // Shows what the later part of the page tells, unless something else has been chosen meanwhile.
-  async showLater(choice, show) {
+  async showLater(choice, show, load = () => this.page.loadsPart()) {
     try {
-      const part = await this.page.loadsPart();
+      const part = await load();
       if (this.page.choice === choice) show(part);
     } catch (error) {
       this.element.append(element('p', { className: 'none' }, `This part of the page can’t be loaded (${error.message}).`));

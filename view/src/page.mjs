@@ -1,6 +1,7 @@
 // The page: its head with search and file picker, a tab for each way to look at the build, and what is chosen.
 import { Build } from './build.mjs';
 import { ChunksPanel } from './chunks_panel.mjs';
+import { Comparison } from './comparison.mjs';
 import { Details } from './details.mjs';
 import { button, element } from './elements.mjs';
 import { NotesPanel } from './notes_panel.mjs';
@@ -10,8 +11,9 @@ import { SplitsPanel } from './splits_panel.mjs';
 import { Tabs } from './tabs.mjs';
 
 export class Page {
-  constructor(root, { pick }) {
+  constructor(root, { pick, compare }) {
     this.build = null;
+    this.comparison = null;
     this.query = '';
     this.summary = element('p', { className: 'summary' });
     this.problem = element('p', { className: 'problem', role: 'alert', hidden: true });
@@ -19,18 +21,15 @@ export class Page {
     this.search = element('input', { type: 'search', placeholder: 'Search modules', 'aria-label': 'Search modules by path', disabled: true });
     this.search.addEventListener('input', () => this.find(this.search.value));
     this.body = element('main');
-    root.append(this.head(pick), this.problem, this.body);
+    root.append(this.head(pick, compare), this.problem, this.body);
   }
 
-  head(pick) {
-    const file = element('input', { type: 'file', accept: '.json,application/json', className: 'unseen', tabIndex: -1 });
-    file.setAttribute('aria-label', 'stats.json of a build');
-    file.addEventListener('change', () => {
-      if (file.files.length > 0) pick(file.files[0]);
-      file.value = '';
-    });
-    const open = button('Open stats…', () => file.click());
-    return element('header', {}, element('h1', {}, 'Chunkpack build'), this.summary, this.search, this.found, open, file);
+  head(pick, compare) {
+    const [file, open] = picker('Open stats…', 'stats.json of a build', pick);
+    const [other, against] = picker('Compare with…', 'stats.json of an earlier build', compare);
+    this.against = against;
+    against.disabled = true;
+    return element('header', {}, element('h1', {}, 'Chunkpack build'), this.summary, this.search, this.found, open, against, file, other);
   }
 
   showProblem(sentence) {
@@ -42,7 +41,9 @@ export class Page {
   showStats(stats) {
     const build = new Build(stats);
     this.build = build;
+    this.comparison = null;
     this.loads = null;
+    this.against.disabled = false;
     this.problem.hidden = true;
     this.search.disabled = false;
     this.search.value = '';
@@ -51,15 +52,30 @@ export class Page {
     this.choice = null;
     const counts = ['module', 'chunk', 'group', 'split'].map((word) => count(build[`${word}s`].length, word));
     this.summary.textContent = [...counts, bytes(build.size)].join(' · ');
+    this.showTabs('Chunks');
+  }
+
+  // Compares the build that is shown with an earlier one, of this name.
+  compareWith(stats, name) {
+    this.comparison = new Comparison(new Build(stats), this.build, name);
+    this.earlier = null;
+    this.problem.hidden = true;
+    this.choice = null;
+    this.showTabs('Compared');
+  }
+
+  showTabs(name) {
     this.details = new Details(this);
     this.tabs = new Tabs(this.tabList());
     this.body.replaceChildren(this.tabs.list, element('div', { className: 'below' }, this.tabs.place, this.details.element));
-    this.tabs.open('Chunks');
+    this.tabs.open(name);
   }
 
   tabList() {
-    const { build } = this;
+    const { build, comparison } = this;
+    const makeCompared = async () => new (await this.comparedPart()).ComparedPanel(this);
     return {
+      ...(comparison && { Compared: { count: comparison.modules.length, make: makeCompared } }),
       Chunks: { count: build.chunks.length, make: () => new ChunksPanel(this) },
       Loads: { count: build.groups.length, make: async () => new (await this.loadsPart()).LoadsPanel(this) },
       Splits: { count: build.splits.length, make: () => new SplitsPanel(this) },
@@ -72,6 +88,14 @@ export class Page {
   async loadsPart() {
     const part = await import(/* webpackChunkName: "loads" */ './loads_part.mjs');
     this.loads ??= new part.Loads(this.build);
+    return part;
+  }
+
+  // The loads of both builds tell why a module has moved.
+  async comparedPart() {
+    const part = await import(/* webpackChunkName: "compared" */ './compared_part.mjs');
+    this.loads ??= new part.Loads(this.build);
+    this.earlierLoads = () => (this.earlier ??= new part.Loads(this.comparison.earlier));
     return part;
   }
 
@@ -106,6 +130,17 @@ export class Page {
     await this.tabs.open('Loads');
     this.tabs.tell((panel) => panel.light?.(history));
   }
+}
+
+// A field for a file, and the button that stands for it.
+function picker(text, label, take) {
+  const file = element('input', { type: 'file', accept: '.json,application/json', className: 'unseen', tabIndex: -1 });
+  file.setAttribute('aria-label', label);
+  file.addEventListener('change', () => {
+    if (file.files.length > 0) take(file.files[0]);
+    file.value = '';
+  });
+  return [file, button(text, () => file.click())];
 }
 
 export function invitation() {

@@ -12,6 +12,12 @@ export function bytes(size) {
   return `${unit === 'bytes' || value >= 100 ? whole(Math.round(value)) : value.toFixed(1)} ${unit}`;
 }
 
+// A difference, with its sign.
+export function signed(size) {
+  if (size === 0) return 'as before';
+  return `${size > 0 ? '+' : '−'}${bytes(Math.abs(size))}`;
+}
+
 // A number with its word, as `1 chunk` and `3 chunks`.
 export function count(number, word) {
   return `${whole(number)} ${number === 1 ? word : `${word}s`}`;

@@ -1,0 +1,1 @@
+export const table = (cells) => cells.join(" | ");
