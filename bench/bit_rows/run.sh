@@ -4,8 +4,7 @@
 # a copy of the crate.
 set -eu
 . "$(dirname "$0")/../workspace.sh"
-copy_crates bit_rows
-printf 'bit_rows:\nbench: bit_rows\n' >"$work/crates.txt"
+bench_on bit_rows
 cat >"$work/crates/bench/src/main.rt" <<'RATTLE'
 #![tactic(auto)]
 

@@ -3,16 +3,7 @@
 # over copies of the crates.
 set -eu
 . "$(dirname "$0")/../workspace.sh"
-copy_crates board_seats claim_board draw_board fault_place graph_types make_core
-cat >"$work/crates.txt" <<'CRATES'
-bench: claim_board draw_board fault_place
-board_seats: atomic_table
-claim_board: atomic_table board_seats fault_place graph_types make_core
-draw_board: atomic_table board_seats fault_place
-fault_place:
-graph_types: fault_place
-make_core: fault_place graph_types
-CRATES
+bench_on claim_board draw_board pack_util
 for name in claim_all draw_all claim_nanos draw_nanos; do mkdir -p "$work/crates/bench/proofs/$name"; done
 touch "$work/crates/bench/specs/Lib.antt"
 cat >"$work/crates/bench/src/main.rt" <<'RATTLE'
@@ -23,7 +14,7 @@ ghost use Rattle.draw_board.specs.Draws as draws;
 
 use claim_board::{ClaimBoard, ClaimSeat};
 use draw_board::{DrawBoard, DrawSeat};
-use fault_place::FileId;
+use pack_util::FileId;
 use std::alloc::Global;
 use std::io;
 use std::thread::{Threads, for_each_mut};

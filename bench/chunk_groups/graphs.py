@@ -1,5 +1,5 @@
 #!/usr/bin/env python3
-"""Lines of large graphs with their groups, in the words of crates/runs_groups.
+"""Lines of large graphs with their groups, in the words of crates/runs_seal.
 
     graphs.py wide MODULES GROUPS    one entry loads each other group
     graphs.py deep MODULES GROUPS    each group loads the next one

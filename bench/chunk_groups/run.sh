@@ -1,6 +1,6 @@
 #!/bin/sh
 # Times `reach` and `available` on wide and deep graphs and on graphs whose groups have many parents each, at three sizes. The
-# program in Rattle is made in a temporary folder, and reads its graphs as crates/runs_groups does, with larger bounds.
+# program in Rattle is made in a temporary folder, and reads its graphs as crates/runs_seal does, with larger bounds.
 set -eu
 . "$(dirname "$0")/../workspace.sh"
 crates='avail_sets bit_rows chunk_groups fault_place graph_types pack_util'
@@ -8,12 +8,12 @@ copy_crates $crates
 for crate in $crates; do
     grep -E "^$crate:" "$root/crates.txt"
 done >"$work/crates.txt"
-echo 'bench: avail_sets bit_rows chunk_groups fault_place graph_types' >>"$work/crates.txt"
-lines="$root/crates/runs_groups"
+echo 'bench: avail_sets bit_rows chunk_groups graph_types pack_util' >>"$work/crates.txt"
+lines="$root/crates/runs_seal"
 cp -r "$lines/specs" "$work/crates/bench/"
 cp "$lines/src/graphs.rt" "$work/crates/bench/src/"
 cp -r "$lines/proofs/Lib.antt" "$lines/proofs/Few.antt" "$lines/proofs/graphs" "$work/crates/bench/proofs/"
-find "$work/crates/bench" -type f -exec sed -i 's/\bruns_groups\b/bench/g; s/\b16\b/32_768/g' {} +
+find "$work/crates/bench" -type f -exec sed -i 's/\bruns_seal\b/bench/g; s/\b16\b/32_768/g' {} +
 cat >"$work/crates/bench/src/main.rt" <<'RATTLE'
 #![tactic(auto)]
 ghost use Rattle.chunk_groups.specs.Grouped.{AreGroupsOver};

@@ -1,5 +1,5 @@
 #!/usr/bin/env python3
-"""A plain search over all load histories, for the lines of crates/runs_groups.
+"""A plain search over all load histories, for the lines `groups` and `named` of crates/runs_seal.
 
 `search.py make SEED COUNT` writes lines of small graphs, `search.py name SEED COUNT` lines of small graphs with names and
 a configuration, `search.py answer` reads such lines and writes the expected answers. A shortest reason never has a group
@@ -102,7 +102,8 @@ def named_answer(line):
 
 
 def answer(line):
-    return named_answer(line) if line.startswith('j:') else answer_of(*parse(line))
+    asked, _, words = line.partition(' ')
+    return named_answer(words) if asked == 'named' else answer_of(*parse(words))
 
 
 def answer_of(modules, groups):
@@ -186,7 +187,7 @@ def make_named(rng):
 if sys.argv[1] in ('make', 'name'):
     rng = random.Random(int(sys.argv[2]))
     for _ in range(int(sys.argv[3])):
-        print(make(rng) if sys.argv[1] == 'make' else make_named(rng))
+        print('groups ' + make(rng) if sys.argv[1] == 'make' else 'named ' + make_named(rng))
 else:
     for line in sys.stdin:
         print(answer(line.rstrip('\n')))

@@ -5,17 +5,14 @@
 set -eu
 folder=${1:-/usr/lib/node_modules}
 . "$(dirname "$0")/../workspace.sh"
-copy_crates es_scan es_tokens fault_place form_shapes graph_types magic_comments pack_util path_text runs_scan test_escapes
-{
-    printf 'bench: es_scan es_tokens fault_place\n'
-    grep -E '^(es_scan|es_tokens|fault_place|form_shapes|graph_types|magic_comments|pack_util|path_text|runs_scan|test_escapes):' "$root/crates.txt"
-} >"$work/crates.txt"
+copy_crates runs_texts
+bench_on es_scan es_tokens pack_util
 cat >"$work/crates/bench/src/main.rt" <<'RATTLE'
 #![tactic(auto)]
 
 use es_scan::scan;
 use es_tokens::tokens;
-use fault_place::MAX_TEXT;
+use pack_util::MAX_TEXT;
 use std::time::Instant;
 use std::{fs, io};
 
@@ -43,19 +40,23 @@ fn main(rt: HostRuntime) -> io::Result<()> {
 }
 RATTLE
 find "$folder" -type f \( -name '*.js' -o -name '*.mjs' -o -name '*.cjs' \) -size +0 | sort >"$work/files"
-for crate in bench runs_scan; do
+for crate in bench runs_texts; do
     (cd "$work/crates/$crate" && rt run </dev/null >/dev/null 2>"$work/log") || { cat "$work/log" >&2; exit 1; }
 done
 "$work/crates/bench/out/bench" <"$work/files" >"$work/ours"
 awk '{ bytes += $1; time += $2 } END { printf "tokens and scan: %.1f MB/s over %d bytes in %d files\n", bytes / (time / 1e9) / 1e6, bytes, NR }' "$work/ours"
+# What the scanner answers to lines of what is asked and a text.
+answers() {
+    sed 's/^/scan /' | "$work/crates/runs_texts/out/runs_texts"
+}
 command -v node >/dev/null || { echo "acorn: no Node here, passed over"; exit 0; }
 if ! node --expose-internals "$here/peer.js" "$work/files" "$work/texts" >"$work/theirs"; then
     echo "acorn: not found in this Node, passed over"
     exit 0
 fi
-"$work/crates/runs_scan/out/runs_scan" <"$work/texts" >"$work/found"
+answers <"$work/texts" >"$work/found"
 node "$here/random.js" "${2:-20000}" 1 "$work/random" "$work/wanted"
-"$work/crates/runs_scan/out/runs_scan" <"$work/random" >"$work/made"
+answers <"$work/random" >"$work/made"
 for pair in "theirs found files" "wanted made random"; do
     set -- $pair
     paste "$work/$1" "$work/$2" "$work/$3" | awk -F '\t' -v what="$3" '

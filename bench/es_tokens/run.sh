@@ -4,13 +4,12 @@
 set -eu
 folder=${1:-/usr/lib/node_modules}
 . "$(dirname "$0")/../workspace.sh"
-copy_crates es_tokens fault_place
-printf 'bench: es_tokens fault_place\nes_tokens: fault_place unicode_ident\nfault_place:\n' >"$work/crates.txt"
+bench_on es_tokens pack_util
 cat >"$work/crates/bench/src/main.rt" <<'RATTLE'
 #![tactic(auto)]
 
 use es_tokens::{TokenEnd, tokens};
-use fault_place::MAX_TEXT;
+use pack_util::MAX_TEXT;
 use std::time::Instant;
 use std::{fs, io};
 

@@ -3,8 +3,7 @@
 # run, and tells the peak of its memory. The program in Rattle is made in a temporary folder.
 set -eu
 . "$(dirname "$0")/../workspace.sh"
-copy_crates json_order fault_place
-printf 'bench: json_order\nfault_place:\njson_order: fault_place indexmap\n' >"$work/crates.txt"
+bench_on json_order
 cat >"$work/crates/bench/src/main.rt" <<'RATTLE'
 #![tactic(auto)]
 

@@ -1,5 +1,5 @@
 // Compares resolution with enhanced-resolve over the requests of real packages.
-// usage: node peer.js make FOLDER, which writes stdin.txt for runs_resolve, and node peer.js compare FOLDER ANSWERS
+// usage: node peer.js make FOLDER, which writes stdin.txt for runs_modules, and node peer.js compare FOLDER ANSWERS
 // Debian's enhanced-resolve asks for two variables of Debian's own Node.
 Object.defineProperty(process, 'config', { value: { variables: { node_relative_path: 'none', node_prefix: '/none' } } });
 const fs = require('fs'), path = require('path');
@@ -40,7 +40,7 @@ if (mode === 'make') {
     let text = '';
     if (file.endsWith('package.json')) { try { text = JSON.stringify(JSON.parse(fs.readFileSync(path.join(root, file), 'utf8'))); } catch { text = 'x'; } }
     if (/[^\x20-\x7e]/.test(text)) text = text.replace(/[^\x20-\x7e]/g, '?');
-    if (!/[^\x20-\x7e]/.test(file)) out.push(`F ${file}|${text}`);
+    if (!/[^\x20-\x7e]/.test(file)) out.push(`F ${file}|${text.replaceAll('\\', '\\\\')}`);
   }
   for (const w of wanted) out.push(w.key);
   fs.writeFileSync('stdin.txt', out.join('\n') + '\n');

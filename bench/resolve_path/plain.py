@@ -1,4 +1,4 @@
-"""Resolution by a plain program of its own: reads the lines that runs_resolve reads, and writes the same answers.
+"""Resolution by a plain program of its own: reads the lines that runs_modules reads, and writes the same answers.
 
 It shares no code with the crates, and looks everything up in a set of paths, one rule after another.
 """
@@ -129,6 +129,10 @@ class World:
         self.aliases = []
         self.read = []
 
+    def configure(self, given):
+        self.aliases = list(given.pop("alias", {}).items())
+        self.settings.update(given)
+
     def add(self, path, text):
         self.files[path] = text
         while "/" in path:
@@ -247,6 +251,10 @@ class World:
             return str(verdict)
 
 
+def unescaped(text):
+    return re.sub(r"\\(\\|x..)", lambda it: "\\" if it[1] == "\\" else chr(int(it[1][1:], 16)), text)
+
+
 def main():
     world = World()
     for line in sys.stdin.read().split("\n")[:-1]:
@@ -255,19 +263,18 @@ def main():
         if line == "T":
             world = World()
         elif kind == "F ":
-            world.add(first, second)
+            world.add(first, unescaped(second))
         elif kind == "Z ":
             world.add(first, "{}".rjust(int(second)))
-        elif kind == "S ":
-            world.settings[first] = second.split(",") if second else []
-        elif kind == "A ":
-            world.aliases.append((first, second))
+        elif kind == "C ":
+            world.configure(json.loads(unescaped(rest)).get("resolve", {}))
         elif kind == "I ":
             print(world.answer(first, second, "import"))
         elif kind == "Q ":
             print(world.answer(first, second, "require"))
         elif line == "L":
-            print(" ".join(["read"] + world.read))
+            print("\n".join(f"  read {path} as manifest" for path in world.read) or "  read nothing")
+            world.read = []
         else:
             print(line)
 

@@ -1,4 +1,4 @@
-"""Random trees, settings and requests in the lines that runs_resolve reads: so many trees, from a seed."""
+"""Random trees, settings and requests in the lines that runs_modules reads: so many trees, from a seed."""
 import json
 import random
 import sys
@@ -62,6 +62,22 @@ def add(files, parts, text):
     files[path] = text
 
 
+def escaped(text):
+    return text.replace("\\", "\\\\")
+
+
+def settings():
+    lists = {
+        "extensions": [".js", ".json", ".mjs", "/index.js", ".x", "x"],
+        "mainFields": ["main", "module", "browser", "name", "exports"],
+        "mainFiles": ["index", "main", "x.js", "/a", "lib/x"],
+        "conditionNames": KEYS,
+    }
+    given = {name: some(values, 3) for name, values in lists.items() if chance.random() < 0.4}
+    keys = some(["k", "k$", "p", "p$", "p/x", "./x", "@s", "$", "a", "x$"], 2)
+    return {**given, "alias": {key: chance.choice(["./lib", "p", "./", "..", "q", "@s/p", "", "/x", "./x.js", "a/", ".", "k"]) for key in keys}}
+
+
 def tree():
     print("T")
     files = {}
@@ -73,18 +89,8 @@ def tree():
             add(files, parts + chance.choice([[], [], ["lib"], ["x"]]) + [name + chance.choice(["", ".js", ".js", ".json"])], "")
         add(files, parts + [chance.choice(NAMES)], "" if chance.random() < 0.5 else "7")
     for path, text in files.items():
-        print("F " + path + "|" + text)
-    if chance.random() < 0.4:
-        print("S extensions|" + ",".join(some([".js", ".json", ".mjs", "/index.js", ".x", "x"], 3)))
-    if chance.random() < 0.4:
-        print("S mainFields|" + ",".join(some(["main", "module", "browser", "name", "exports"], 3)))
-    if chance.random() < 0.4:
-        print("S mainFiles|" + ",".join(some(["index", "main", "x.js", "/a", "lib/x"], 3)))
-    if chance.random() < 0.4:
-        print("S conditionNames|" + ",".join(some(KEYS, 3)))
-    for _ in range(chance.choice([0, 0, 1, 2])):
-        key = chance.choice(["k", "k$", "p", "p$", "p/x", "./x", "@s", "$", "a", "x$"])
-        print("A " + key + "|" + chance.choice(["./lib", "p", "./", "..", "q", "@s/p", "", "/x", "./x.js", "a/", ".", "k"]))
+        print("F " + path + "|" + escaped(text))
+    print("C " + escaped(json.dumps({"resolve": settings()})))
     for _ in range(12):
         base = "/".join(folder())
         if files and chance.random() < 0.7:

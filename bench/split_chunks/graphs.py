@@ -1,5 +1,5 @@
 #!/usr/bin/env python3
-"""Lines of large graphs for crates/runs_splits, with the word `q`, by which it shows no changed lists.
+"""Lines of large graphs for crates/runs_seal, with the word `q`, by which it shows no changed lists.
 
     graphs.py tree COUNT      modules as a tree of three branches, a fourth of its third branches loaded on demand, and
                               seven libraries of 50,000 bytes
@@ -56,8 +56,8 @@ def many(count):
 
 
 def line(config, sizes, paths, first, others):
-    words = [json.dumps(config, separators=(",", ":")), "q"]
-    words += [f"m:{size}:{path}" for size, path in zip(sizes, paths)]
+    words = ["splits", json.dumps(config, separators=(",", ":")), "q"]
+    words += [f"m:s{size};{path}" for size, path in zip(sizes, paths)]
     words += ["e:main:" + ",".join(map(str, row)) for row in first]
     words += ["g::" + ",".join(map(str, row)) for row in others]
     return " ".join(words)

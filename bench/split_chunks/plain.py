@@ -1,7 +1,7 @@
 #!/usr/bin/env python3
 """Splits of small chunk graphs by the definition alone: sets, and all candidates before each split.
 
-    plain.py answer < LINES     the answer of each line (the format is that of crates/runs_splits/src/main.rt)
+    plain.py answer < LINES     the answer of each line `splits` of crates/runs_seal
     plain.py make SEED COUNT    lines of random graphs
 """
 import json
@@ -271,7 +271,7 @@ class Lower:
 
 class Case:
     def __init__(self, line):
-        text, rest = line.split(" ", 1) if " " in line else (line, "")
+        text, _, rest = line.partition(" ")[2].partition(" ")
         self.config = json.loads(text)
         self.rules = rules_of(self.config)
         options = self.config.get("optimization", {})
@@ -281,8 +281,8 @@ class Case:
         for word in rest.split(" "):
             kind, _, rest_ = word.partition(":")
             if kind == "m":
-                size, _, path = rest_.partition(":")
-                self.sizes.append(int(size))
+                size, _, path = rest_.partition(";")
+                self.sizes.append(int(size[1:]))
                 self.paths.append(path)
             elif kind in "eg" and kind:
                 name, _, mods = rest_.partition(":")
@@ -408,8 +408,8 @@ def random_line(rng):
     is_near = rng.random() < 0.03
     if is_near:
         options["removeEmptyChunks"] = False
-    words = [json.dumps({"optimization": options}, separators=(",", ":"))]
-    words += [f"m:{rng.choice([0, 1, 10, 30, 50, 90])}:{path}" for path in paths]
+    words = ["splits", json.dumps({"optimization": options}, separators=(",", ":"))]
+    words += [f"m:s{rng.choice([0, 1, 10, 30, 50, 90])};{path}" for path in paths]
     for i in range(rng.randint(1, 2)):
         words.append(f"e:{'main' if i == 0 else 'other'}:{some(rng, count)}")
     for i in range(rng.randint(0, 5)):

@@ -1,9 +1,9 @@
 #!/bin/sh
-# Times splits of large graphs by the program of crates/runs_splits, which has to be built (`rt check` in its folder):
+# Times splits of large graphs by the program of crates/runs_seal, which has to be built (`rt check` in its folder):
 # trees of 1,000, 5,000 and 20,000 modules, and 4,096 modules in 4,096 groups under 16 cache groups.
 set -eu
 here=$(cd "$(dirname "$0")" && pwd)
-program="$here/../../crates/runs_splits/out/runs_splits"
+program="$here/../../crates/runs_seal/out/runs_seal"
 work=$(mktemp -d)
 trap 'rm -rf "$work"' EXIT
 for graph in "tree 1000" "tree 5000" "tree 20000" "many 4096"; do

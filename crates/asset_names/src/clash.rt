@@ -2,7 +2,8 @@ ghost use Rattle.std.specs.Prelude.{◌≡◌, ◌++◌, IfOk, OnOk};
 ghost use Rattle.asset_names.specs.Clashes.{clash_fault, clashes_of, first_clash, stats_clash};
 ghost use Rattle.asset_names.specs.inner.Firsts.{first_id, IsKept};
 
-use fault_place::{Fault, FaultKind, NoMemory, Text, place_at};
+use fault_place::{Fault, FaultKind, place_at};
+use pack_util::{NoMemory, Text};
 use std::alloc::Global;
 use std::collections::HashMap;
 

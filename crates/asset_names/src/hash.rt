@@ -1,7 +1,7 @@
 ghost use Rattle.std.specs.Prelude.{◌≡◌, ◌≤◌, IfOk, string_bytes};
 ghost use Rattle.asset_names.specs.Hash.{hash_of, whole_hash_of};
 
-use fault_place::{NoMemory, Text};
+use pack_util::{NoMemory, Text};
 use sha2::{Digest, Sha256};
 use std::alloc::Global;
 

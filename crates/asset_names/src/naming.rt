@@ -7,8 +7,8 @@ ghost use Rattle.asset_names.specs.Names.{name_from};
 ghost use Rattle.asset_names.specs.inner.Shown.{hash_in, is_hash, shown_with};
 
 use crate::hash::whole_hash;
-use fault_place::{NoMemory, Text};
 use graph_types::{Part, Template};
+use pack_util::{NoMemory, Text};
 use std::alloc::Global;
 
 /// The name that a template gives to the asset of a chunk.

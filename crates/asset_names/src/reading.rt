@@ -7,8 +7,8 @@ ghost use Rattle.asset_names.specs.Template.{letter_for};
 
 use crate::TemplateEnd;
 use crate::mark::read_mark;
-use fault_place::{NoMemory, Seq, Text};
 use graph_types::{Part, Template};
+use pack_util::{NoMemory, Seq, Text};
 use path_text::is_normal;
 use std::alloc::Global;
 

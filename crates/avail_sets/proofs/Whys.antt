@@ -4,7 +4,7 @@ use Rattle.std.specs.Prelude.{◌↔◌, IsTrue}
 use Rattle.std.proofs.lemmas.Bool.{cases_Bool, true≢false}
 use Rattle.graph_types.proofs.Reached.{head-or-rest, rest-member}
 use Rattle.bit_rows.specs.Table.{Table, blank}
-use Rattle.fault_place.specs.declared.number.GroupNo.{GroupNo}
+use Rattle.pack_util.specs.declared.number.GroupNo.{GroupNo}
 use Rattle.graph_types.specs.declared.groups.GroupInfo.{GroupInfo}
 use Rattle.graph_types.specs.Modules.{Graph}
 use Rattle.chunk_groups.specs.Grouped.{IsReach, net_of}

@@ -1,7 +1,7 @@
 -- Why a module is placed in a group (this project): a load history that ends with the group and in which no earlier group
 -- reaches the module.
 use Rattle.std.specs.Prelude.{◌≡◌, ℕ, ◌<◌, ◌⊎◌, List, [], ◌∷◌, ◌++◌, length, map}
-use Rattle.fault_place.specs.declared.number.GroupNo.{GroupNo}
+use Rattle.pack_util.specs.declared.number.GroupNo.{GroupNo}
 use Rattle.chunk_groups.specs.Histories.{IsHistory}
 use Rattle.chunk_groups.specs.Net.{Net, Reaches}
 use Rattle.chunk_groups.specs.Serving.{NoneBrings}

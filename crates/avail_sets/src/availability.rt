@@ -7,8 +7,8 @@ use crate::falling::fall;
 use crate::opening::all_opened;
 use crate::starting::{entries, first_rows};
 use bit_rows::BitTable;
-use fault_place::NoMemory;
 use graph_types::{Groups, ModuleGraph};
+use pack_util::NoMemory;
 use std::alloc::Global;
 
 /// A row for each group with the modules that an earlier group has brought whenever the group is loaded.

@@ -10,7 +10,7 @@ ghost use Rattle.chunk_groups.specs.Serving.{Holds};
 ghost use Rattle.avail_sets.specs.inner.Falling.{AreOpened, AreSized, IsFalling, IsHandedDown};
 
 use bit_rows::{BitRow, BitTable};
-use fault_place::NoMemory;
+use pack_util::NoMemory;
 use std::alloc::Global;
 
 /// Keeps in a row of the table what is in the other row too, and says whether that changed it.

@@ -8,7 +8,7 @@ ghost use Rattle.avail_sets.specs.inner.Falling.{AreOpened, SaysWhich};
 ghost use Rattle.avail_sets.specs.inner.Layers.{AreEven, AreLayers, IsSearched};
 
 use bit_rows::{BitRow, BitTable};
-use fault_place::NoMemory;
+use pack_util::NoMemory;
 use std::alloc::Global;
 
 /// The groups that don't reach the module.

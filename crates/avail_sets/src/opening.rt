@@ -6,8 +6,8 @@ ghost use Rattle.chunk_groups.specs.Grouped.{AreGroupsOver, IsOver, IsReach, inf
 ghost use Rattle.avail_sets.specs.inner.Falling.{AreOpened, HasHomeIn, IsOpened, SaysWhich};
 
 use bit_rows::{BitRow, BitTable};
-use fault_place::{GroupNo, NoMemory};
 use graph_types::{GroupInfo, Groups, ModuleGraph};
+use pack_util::{GroupNo, NoMemory};
 use std::alloc::Global;
 
 fn has_home_in(graph: &ModuleGraph, info: &GroupInfo, modules: &BitRow) -> bool

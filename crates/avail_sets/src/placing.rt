@@ -2,7 +2,7 @@ ghost use Rattle.std.specs.Prelude.{◌≡◌, length, IfOk};
 ghost use Rattle.avail_sets.specs.Availability.{IsPlacedTable};
 
 use bit_rows::{BitRow, BitTable};
-use fault_place::NoMemory;
+use pack_util::NoMemory;
 use std::alloc::Global;
 
 /// A row for each group with what it reaches and isn't available to it.

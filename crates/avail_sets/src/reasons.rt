@@ -10,8 +10,8 @@ use crate::layering::{first_layers, lacking, search};
 use crate::opening::all_opened;
 use crate::starting::entries;
 use bit_rows::{BitRow, BitTable};
-use fault_place::{GroupNo, ModuleNo, NoMemory};
 use graph_types::{Groups, ModuleGraph};
+use pack_util::{GroupNo, ModuleNo, NoMemory};
 use std::alloc::Global;
 
 /// From a group of the last layer to the first layer, by the least group of each that the one before may load.

@@ -5,8 +5,8 @@ ghost use Rattle.chunk_groups.specs.Grouped.{info_at};
 ghost use Rattle.avail_sets.specs.inner.Falling.{AreFirst, SaysWhich, first_row};
 
 use bit_rows::{BitRow, BitTable};
-use fault_place::{GroupNo, NoMemory};
 use graph_types::{GroupInfo, Groups};
+use pack_util::{GroupNo, NoMemory};
 use std::alloc::Global;
 
 fn first_row(alloc: Global, info: &GroupInfo, width: u32) -> Result<BitRow, NoMemory>

@@ -4,7 +4,7 @@ use Rattle.std.specs.Prelude.{Contains}
 use Rattle.std.proofs.lemmas.List.{map-append}
 use Rattle.std.proofs.lemmas.List.Elements.{Contains-append_left, Contains-append_right, Contains-push}
 use Rattle.claim_board.specs.declared.seat.ClaimSeat.{ClaimSeat}
-use Rattle.fault_place.specs.declared.number.FileId.{FileId}
+use Rattle.pack_util.specs.declared.number.FileId.{FileId}
 use Rattle.graph_types.specs.declared.record.ModRecord.{ModRecord}
 use Rattle.build_round.specs.Rounds.{knows}
 use Rattle.build_round.specs.inner.Parts.{Adds, AreKept, Keeps}

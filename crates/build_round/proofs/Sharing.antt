@@ -7,9 +7,9 @@ use denote.Struct.Declared.{shape}
 use Rattle.std.proofs.Crossing.{crosses}
 use Rattle.claim_board.proofs.seat.ClaimSeat.TheSendSync.{the_field_send as seat_field}
 use Rattle.draw_board.proofs.seat.DrawSeat.TheSendSync.{the_field_send as hand_field}
-use Rattle.fault_place.proofs.number.FileId.TheSendSync.{the_send as file_send}
-use Rattle.fault_place.proofs.seq.Seq.TheSendSync.{the_send as seq_send, the_sync as seq_sync}
-use Rattle.fault_place.proofs.text.Text.TheSendSync.{the_send as text_send, the_sync as text_sync}
+use Rattle.pack_util.proofs.number.FileId.TheSendSync.{the_send as file_send}
+use Rattle.pack_util.proofs.seq.Seq.TheSendSync.{the_send as seq_send, the_sync as seq_sync}
+use Rattle.pack_util.proofs.text.Text.TheSendSync.{the_send as text_send, the_sync as text_sync}
 use Rattle.graph_types.proofs.condition.Condition.TheLaws.TheKnot.{crosses as condition_crosses}
 use Rattle.graph_types.proofs.entry.EntrySpec.TheSendSync.{the_sync as entry_sync}
 use Rattle.graph_types.specs.contracts.cache_group.CacheGroup as group

@@ -13,7 +13,7 @@ use Rattle.claim_board.specs.declared.board.ClaimBoard.{ClaimBoard}
 use Rattle.claim_board.specs.declared.seat.ClaimSeat.{ClaimSeat}
 use Rattle.draw_board.specs.Draws.{AreSeatsFrom, Closes, IsNewSeat, drawn, once_below, times}
 use Rattle.draw_board.specs.declared.board.DrawBoard.{DrawBoard}
-use Rattle.fault_place.specs.declared.number.FileId.{FileId}
+use Rattle.pack_util.specs.declared.number.FileId.{FileId}
 use Rattle.graph_types.specs.Modules.{file_id}
 use Rattle.graph_types.specs.Targets.{targets_of}
 use Rattle.graph_types.specs.declared.config.Config.{Config}

@@ -11,7 +11,7 @@ use Rattle.claim_board.specs.Claims.{IsKnown, IsSameSeat, IsWon, lists_of, publi
 use Rattle.claim_board.specs.Lists.{is_in, put_in}
 use Rattle.claim_board.specs.declared.lists.Lists.{Lists}
 use Rattle.claim_board.specs.declared.seat.ClaimSeat.{ClaimSeat}
-use Rattle.fault_place.specs.declared.number.FileId.{FileId}
+use Rattle.pack_util.specs.declared.number.FileId.{FileId}
 use Rattle.graph_types.specs.Modules.{file_id}
 use Rattle.graph_types.specs.Targets.{targets_of}
 use Rattle.graph_types.specs.declared.config.Config.{Config}

@@ -5,7 +5,7 @@ use Rattle.std.specs.List.{list_any, AllByRecursion, AllZip, IsDistinct}
 use Rattle.claim_board.specs.Claims.{IsSameSeat, published, seen, won}
 use Rattle.claim_board.specs.Lists.{is_in}
 use Rattle.claim_board.specs.declared.seat.ClaimSeat.{ClaimSeat}
-use Rattle.fault_place.specs.declared.number.FileId.{FileId}
+use Rattle.pack_util.specs.declared.number.FileId.{FileId}
 use Rattle.graph_types.specs.Modules.{file_id}
 use Rattle.graph_types.specs.Targets.{targets_of}
 use Rattle.graph_types.specs.declared.config.Config.{Config}

@@ -5,8 +5,8 @@ ghost use Rattle.outside.specs.declared.outside_end.OutsideEnd.TheVariants.{Fail
 ghost use Rattle.build_round.specs.inner.Parts.{SomeFailed, kept_by};
 
 use crate::part::Part;
-use fault_place::FileId;
 use outside::OutsideEnd;
+use pack_util::FileId;
 use std::alloc::Global;
 
 /// The files that the workers kept, one worker after another, or how the first of them ended that failed.

@@ -6,7 +6,7 @@ ghost use Rattle.build_round.specs.inner.Handing.{AreMadeOf, IsIdle, readers_of}
 use crate::part::{Bench, Part};
 use claim_board::ClaimSeat;
 use draw_board::DrawSeat;
-use fault_place::NoMemory;
+use pack_util::NoMemory;
 use resolve_path::ManifestCache;
 use std::alloc::Global;
 

@@ -6,8 +6,8 @@ ghost use Rattle.graph_types.specs.Targets.{item_target};
 ghost use Rattle.build_round.specs.inner.Parts.{Adds, Keeps};
 
 use claim_board::{ClaimBoard, ClaimSeat, Look};
-use fault_place::{FileId, NoMemory};
 use graph_types::Item;
+use pack_util::{FileId, NoMemory};
 
 /// Keeps the file where it looks free.
 fn keep_one(

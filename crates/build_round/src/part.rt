@@ -1,7 +1,7 @@
 use claim_board::ClaimSeat;
 use draw_board::DrawSeat;
-use fault_place::FileId;
 use outside::OutsideEnd;
+use pack_util::FileId;
 use resolve_path::ManifestCache;
 
 /// What a worker builds with, and the files that it kept.

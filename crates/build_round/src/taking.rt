@@ -7,10 +7,10 @@ ghost use Rattle.build_round.specs.inner.Parts.{BuildsOne, Works};
 use crate::keeping::keep_free;
 use crate::part::Bench;
 use claim_board::{Claim, ClaimBoard, Ticket};
-use fault_place::FileId;
 use graph_types::Config;
 use module_build::build_one;
 use outside::{OutsideEnd, TreeReader};
+use pack_util::FileId;
 use std::alloc::Global;
 use tree_listing::Listing;
 

@@ -10,9 +10,9 @@ use crate::part::{Bench, Part};
 use crate::taking::take;
 use claim_board::ClaimBoard;
 use draw_board::{DrawBoard, DrawSeat};
-use fault_place::FileId;
 use graph_types::Config;
 use outside::{OutsideEnd, TreeReader};
+use pack_util::FileId;
 use std::alloc::Global;
 use tree_listing::Listing;
 

@@ -4,7 +4,7 @@ use Rattle.std.specs.List.{join_by, range_with_len}
 use Rattle.std.specs.Option.{option_map_or}
 use Rattle.chunk_graph.specs.Chunks.{State, chunk_at, group_at, is_in}
 use Rattle.chunk_graph.specs.Moves.{id_of}
-use Rattle.fault_place.specs.declared.number.ModuleNo.{ModuleNo}
+use Rattle.pack_util.specs.declared.number.ModuleNo.{ModuleNo}
 use Rattle.module_code.specs.Ids.{chunk_ids, id_text, ids_text}
 use Rattle.module_code.specs.ModuleText.{module_text_of}
 use Rattle.module_code.specs.Quoted.{quoted_text, with_commas}

@@ -4,9 +4,8 @@ ghost use Rattle.chunk_code.specs.inner.Lines.{line_end};
 ghost use Rattle.module_code.specs.View.{IsSealing};
 
 use crate::members::members_of;
-use fault_place::{ChunkNo, ModuleNo, NoMemory};
 use module_code::{SealView, add_module, add_module_id, chunk_id};
-use pack_util::{add, add_around};
+use pack_util::{ChunkNo, ModuleNo, NoMemory, add, add_around};
 use std::alloc::Global;
 
 fn line_end(rest: &[u32]) -> &'static [u8]

@@ -5,8 +5,8 @@ ghost use Rattle.module_code.specs.View.{IsSealing};
 use crate::chunk::add_chunk;
 use crate::runtime::add_runtime;
 use crate::startup::add_startup;
-use fault_place::{ChunkNo, GroupNo, NoMemory, Text};
 use module_code::SealView;
+use pack_util::{ChunkNo, GroupNo, NoMemory, Text};
 use std::alloc::Global;
 
 /// The text of an entry's chunk, which has the number of the entry's group. `files` are the ids of the chunks that are no

@@ -4,7 +4,7 @@ ghost use Rattle.chunk_code.specs.Texts.{members_in, members_of};
 
 use bit_rows::BitRow;
 use chunk_graph::ChunkGraph;
-use fault_place::{ChunkNo, NoMemory};
+use pack_util::{ChunkNo, NoMemory};
 use std::alloc::Global;
 
 /// The true places of a row, ascending.

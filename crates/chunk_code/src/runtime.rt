@@ -3,9 +3,8 @@ ghost use Rattle.chunk_code.specs.Runtime.{runtime_functions};
 ghost use Rattle.chunk_code.specs.Texts.{file_text, runtime_text_of};
 ghost use Rattle.module_code.specs.Quoted.{with_commas};
 
-use fault_place::{NoMemory, Text};
 use module_code::{SealView, add_comma, add_quoted};
-use pack_util::{add, add_number};
+use pack_util::{NoMemory, Text, add, add_number};
 use std::alloc::Global;
 
 /// The functions that load chunks and run modules, written once for each page.

@@ -4,9 +4,8 @@ ghost use Rattle.chunk_code.specs.Texts.{awaited, group_roots, start_text, start
 ghost use Rattle.module_code.specs.View.{IsSealing};
 
 use chunk_graph::ChunkGraph;
-use fault_place::{ChunkNo, GroupNo, ModuleNo, NoMemory};
 use module_code::{SealView, add_ids, add_module_id, chunk_ids};
-use pack_util::add;
+use pack_util::{ChunkNo, GroupNo, ModuleNo, NoMemory, add};
 use std::alloc::Global;
 
 /// The chunks of an entry's group but the entry's own.

@@ -5,7 +5,7 @@ use Rattle.std.proofs.lemmas.Bool.{or_cases, cond_both, eqb-true, or_left, or_ri
 use Rattle.std.proofs.lemmas.List.Folds.{list_any-append, list_any_at}
 use Rattle.std.proofs.lemmas.List.FromFn.{get_or-range_with_len, length-range_with_len, map-range_with_len_more}
 use Rattle.std.proofs.lemmas.List.Sums.{position_or_len_is, fails_before_first, passes_at_first, prefix_len-le-length}
-use Rattle.fault_place.specs.declared.number.ChunkNo.{ChunkNo}
+use Rattle.pack_util.specs.declared.number.ChunkNo.{ChunkNo}
 use Rattle.chunk_graph.specs.declared.chunk.Chunk.{Chunk}
 use Rattle.chunk_graph.specs.Chunks.{has}
 use Rattle.chunk_graph.specs.Moves.{chunk_no, joined}

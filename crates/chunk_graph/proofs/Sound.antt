@@ -7,7 +7,7 @@ use Rattle.std.proofs.lemmas.List.{get_or_past, get_or-map, get_or-set_same, get
 use Rattle.std.proofs.lemmas.List.Elements.{All-get_or}
 use Rattle.std.proofs.lemmas.List.FromFn.{get_or-map-range_with_len, length-map-range_with_len}
 use Rattle.std.proofs.lemmas.Simd.{length-zip2}
-use Rattle.fault_place.specs.declared.number.ChunkNo.{ChunkNo}
+use Rattle.pack_util.specs.declared.number.ChunkNo.{ChunkNo}
 use Rattle.bit_rows.specs.Table.{Table, IsEven}
 use Rattle.chunk_graph.specs.declared.chunk.Chunk.{Chunk}
 use Rattle.chunk_graph.specs.Chunks.{State, IsShaped, IsSound, no_chunk, has, group_at, is_in, chunk_at}

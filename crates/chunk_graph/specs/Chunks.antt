@@ -2,7 +2,7 @@
 -- chunks and groups are named by their numbers, and a set of modules or chunks is a row of truth values.
 use Rattle.std.specs.Prelude.{◌≡◌, ℕ, ◌<◌, ◌≤◌, ◌^◌, Bool, true, false, not, ◌&&◌, List, [], length, slice_index_or, None, ◌==◌}
 use Rattle.std.specs.List.{list_any, count_by}
-use Rattle.fault_place.specs.declared.number.ChunkNo.{ChunkNo}
+use Rattle.pack_util.specs.declared.number.ChunkNo.{ChunkNo}
 use Rattle.chunk_graph.specs.declared.chunk.Chunk.{Chunk}
 
 -- The number of modules, the chunks in the order of their numbers, the chunks of each group, how many groups are those

@@ -2,7 +2,7 @@ ghost use Rattle.std.specs.Prelude.{◌≡◌, length};
 ghost use Rattle.chunk_graph.specs.Moves.{moved_one};
 
 use bit_rows::BitRow;
-use fault_place::Text;
+use pack_util::Text;
 
 /// One chunk. Its row has a place for each module.
 #[derive(Drop)]

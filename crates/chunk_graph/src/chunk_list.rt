@@ -5,7 +5,7 @@ ghost use Rattle.chunk_graph.specs.Moves.{joined, needed};
 
 use crate::chunk::Chunk;
 use crate::emptying::is_needed;
-use fault_place::{ChunkNo, NoMemory};
+use pack_util::{ChunkNo, NoMemory};
 use std::alloc::Global;
 use std::marker::Model;
 
@@ -17,7 +17,7 @@ pub struct ChunkList {
 
 impl Model for ChunkList {
     ghost use Rattle.std.specs.Prelude.{List};
-    ghost use Rattle.fault_place.specs.declared.number.ChunkNo.{ChunkNo};
+    ghost use Rattle.pack_util.specs.declared.number.ChunkNo.{ChunkNo};
 
     ghost Value = { List ChunkNo };
 

@@ -5,7 +5,7 @@ ghost use Rattle.chunk_graph.specs.Moves.{is_empty, needed, gone_if_empty};
 
 use crate::chunk::Chunk;
 use crate::chunk_list::ChunkList;
-use fault_place::ChunkNo;
+use pack_util::ChunkNo;
 
 fn is_empty(chunk: &Chunk) -> bool
     ensures { result ≡ is_empty chunk.now }

@@ -12,7 +12,7 @@ use crate::merging::{all_merged_into, merged_lists, remove_merged};
 use crate::moving::move_all;
 use crate::starting::{first_chunks, first_lists};
 use bit_rows::{BitRow, BitTable};
-use fault_place::{ChunkNo, GroupNo, Text};
+use pack_util::{ChunkNo, GroupNo, Text};
 use std::alloc::{AllocError, Global};
 use std::marker::Model;
 

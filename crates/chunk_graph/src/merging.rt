@@ -6,7 +6,7 @@ ghost use Rattle.chunk_graph.specs.Moves.{may_merge, are_equal, merged_into, mer
 
 use crate::chunk::Chunk;
 use crate::chunk_list::ChunkList;
-use fault_place::{ChunkNo, NoMemory};
+use pack_util::{ChunkNo, NoMemory};
 use std::alloc::Global;
 
 fn may_merge(chunk: &Chunk) -> bool

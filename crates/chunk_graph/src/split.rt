@@ -1,7 +1,7 @@
-use fault_place::{ChunkNo, ModuleNo, Seq};
+use pack_util::{ChunkNo, ModuleNo, Seq};
 
 /// What one split did. Both lists are ascending.
-#[derive(Clone, Debug, PartialEq, Eq, Drop)]
+#[derive(Clone, PartialEq, Eq, Drop)]
 pub struct Split {
     pub cache_group: u32,
     /// Whether the split stands for its size alone, whatever the number of requests.

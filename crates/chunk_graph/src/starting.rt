@@ -7,7 +7,7 @@ ghost use Rattle.bit_rows.specs.Table.{IsEven};
 use crate::chunk::Chunk;
 use crate::chunk_list::ChunkList;
 use bit_rows::{BitRow, BitTable};
-use fault_place::{ChunkNo, NoMemory, Text};
+use pack_util::{ChunkNo, NoMemory, Text};
 use std::alloc::Global;
 
 fn copy_row(alloc: Global, row: &BitRow) -> Result<BitRow, NoMemory>

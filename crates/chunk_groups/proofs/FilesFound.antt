@@ -6,8 +6,8 @@ use Rattle.std.proofs.lemmas.Bool.{eq-eqb, false≢true}
 use Rattle.std.proofs.lemmas.List.{get_or_default, get_or-map, length-map}
 use Rattle.std.proofs.lemmas.List.Elements.{Contains-append_left, Contains-append_right}
 use Rattle.fault_place.specs.declared.fault.Fault.{Fault}
-use Rattle.fault_place.specs.declared.number.FileId.{FileId}
-use Rattle.fault_place.specs.declared.number.ModuleNo.{ModuleNo}
+use Rattle.pack_util.specs.declared.number.FileId.{FileId}
+use Rattle.pack_util.specs.declared.number.ModuleNo.{ModuleNo}
 use Rattle.graph_types.specs.declared.block.Block.{Block}
 use Rattle.graph_types.specs.declared.item.Item.{Item}
 use Rattle.graph_types.specs.declared.record.ModRecord.{ModRecord}

@@ -10,7 +10,7 @@ use Rattle.chunk_groups.proofs.Filled.{none-past}
 use Rattle.chunk_groups.proofs.Marks.{module-in}
 use Rattle.chunk_groups.proofs.Within.{targets-within}
 use Rattle.std.proofs.lemmas.List.{get_or_default}
-use Rattle.fault_place.specs.declared.number.ModuleNo.{ModuleNo}
+use Rattle.pack_util.specs.declared.number.ModuleNo.{ModuleNo}
 use Rattle.graph_types.specs.declared.groups.GroupInfo.{GroupInfo}
 use Rattle.chunk_groups.specs.Grouped.{AreGroupsOver, info_at, no_group, net_of, targets_at}
 

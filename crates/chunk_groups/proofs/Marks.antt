@@ -6,7 +6,7 @@ use Rattle.std.proofs.lemmas.Bool.{cases_eq, cases_lt, false≢true}
 use Rattle.std.proofs.lemmas.List.{get_or_past, get_or-set_same, get_or-set_other, get_or-map, length-map, length-set, length-append, get_or-replicate, length-replicate}
 use Rattle.std.proofs.lemmas.List.Elements.{Contains-append_left, Contains-append_right, Contains-append_cases, Contains-push, Contains-push_cases}
 use Rattle.std.proofs.lemmas.List.Sums.{sum_by-set}
-use Rattle.fault_place.specs.declared.number.ModuleNo.{ModuleNo}
+use Rattle.pack_util.specs.declared.number.ModuleNo.{ModuleNo}
 use Rattle.graph_types.specs.Modules.{module_no}
 use Rattle.graph_types.specs.Reached.{Walk}
 use Rattle.chunk_groups.specs.Grouped.{numbers}

@@ -4,7 +4,7 @@ use Rattle.std.specs.Prelude.{Contains, All}
 use Rattle.std.proofs.lemmas.Bool.{cases_eq, cases_lt}
 use Rattle.std.proofs.lemmas.List.{get_or_append_left, get_or-append-add, get_or_past, length-append}
 use Rattle.std.proofs.lemmas.List.Elements.{All-append, All-map, All-nil, Contains-append_left, Contains-push, Contains-push_cases}
-use Rattle.fault_place.specs.declared.number.GroupNo.{GroupNo}
+use Rattle.pack_util.specs.declared.number.GroupNo.{GroupNo}
 use Rattle.graph_types.specs.declared.entry.EntrySpec.{EntrySpec}
 use Rattle.graph_types.specs.declared.groups.GroupInfo.{GroupInfo}
 use Rattle.graph_types.specs.Modules.{Graph}

@@ -2,8 +2,8 @@
 -- the entries, then one for each chunk name, then one for each block without a name.
 use Rattle.std.specs.Prelude.{◌≡◌, ℕ, ◌<◌, Bool, false, not, List, [], ◌∷◌, ◌++◌, length, map, filter, slice_index_or, Option, Some, None, is_some, bytes_eq, Contains}
 use Rattle.std.specs.List.{enumerate_from}
-use Rattle.fault_place.specs.declared.number.GroupNo.{GroupNo}
-use Rattle.fault_place.specs.declared.number.ModuleNo.{ModuleNo}
+use Rattle.pack_util.specs.declared.number.GroupNo.{GroupNo}
+use Rattle.pack_util.specs.declared.number.ModuleNo.{ModuleNo}
 use Rattle.graph_types.specs.declared.block.Block.{Block}
 use Rattle.graph_types.specs.declared.entry.EntrySpec.{EntrySpec}
 use Rattle.graph_types.specs.declared.groups.GroupInfo.{GroupInfo}

@@ -1,7 +1,7 @@
 -- The net of a module graph and its groups (this project).
 use Rattle.std.specs.Prelude.{◌≡◌, ◌↔◌, ℕ, ◌<◌, List, [], length, map, slice_index_or, None, is_some, All, IsTrue}
 use Rattle.bit_rows.specs.Table.{Table}
-use Rattle.fault_place.specs.declared.number.ModuleNo.{ModuleNo}
+use Rattle.pack_util.specs.declared.number.ModuleNo.{ModuleNo}
 use Rattle.graph_types.specs.declared.block.Block.{Block}
 use Rattle.graph_types.specs.declared.groups.GroupInfo.{GroupInfo}
 use Rattle.graph_types.specs.declared.record.ModRecord.{ModRecord}

@@ -8,8 +8,8 @@ ghost use Rattle.chunk_groups.specs.ChunkNames.{chunk_names};
 ghost use Rattle.chunk_groups.specs.inner.Filing.{AreRoots, IsPut, groups_so_far, with_block};
 
 use crate::naming::{chunk_name, place_of};
-use fault_place::{GroupNo, ModuleNo, NoMemory, Seq, Text};
 use graph_types::{Block, Config, EntrySpec, GroupInfo, Groups, ModuleGraph};
+use pack_util::{GroupNo, ModuleNo, NoMemory, Seq, Text};
 use std::alloc::Global;
 
 fn entry_group(

@@ -15,8 +15,9 @@ use crate::GroupsEnd;
 use crate::filing::filed;
 use crate::naming::{chunk_names, has_no_name};
 use crate::taken::name_faults;
-use fault_place::{Limit, Seq, Text, sort_faults};
+use fault_place::{Limit, sort_faults};
 use graph_types::{Config, EntrySpec, Groups, ModuleGraph};
+use pack_util::{Seq, Text};
 use std::alloc::Global;
 
 /// How many blocks give no name to their chunk.

@@ -1,8 +1,9 @@
-use fault_place::{Fault, Seq};
+use fault_place::Fault;
+use pack_util::Seq;
 use std::alloc::{AllocError, AllocFailed};
 
 /// Why a graph has no groups.
-#[derive(Debug, Drop)]
+#[derive(Drop)]
 pub enum GroupsEnd {
     /// Names that are taken, in order; there is at least one.
     Faults(Seq<Fault>),

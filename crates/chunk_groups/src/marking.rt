@@ -4,7 +4,7 @@ ghost use Rattle.std.specs.Prelude.{◌≡◌, ◌<◌, [], ◌∷◌, length, A
 ghost use Rattle.chunk_groups.specs.inner.Marking.{IsMarked};
 
 use bit_rows::BitRow;
-use fault_place::{ModuleNo, NoMemory};
+use pack_util::{ModuleNo, NoMemory};
 
 fn mark_one(row: &mut BitRow, waiting: &mut Vec<ModuleNo>, m: ModuleNo) -> Result<(), NoMemory>
     requires { m.0 < length row.old }

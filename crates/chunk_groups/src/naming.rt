@@ -10,9 +10,8 @@ ghost use Rattle.graph_types.specs.Edges.{blocks_of};
 ghost use Rattle.chunk_groups.specs.ChunkNames.{chunk_name_of, chunk_names};
 ghost use Rattle.chunk_groups.specs.inner.Filing.{StandsIn};
 
-use fault_place::{NoMemory, Text};
 use graph_types::{Block, ModuleGraph};
-use pack_util::add_some;
+use pack_util::{NoMemory, Text, add_some};
 use std::alloc::Global;
 
 /// The name that a block gives to its chunk. Takes no memory.

@@ -4,8 +4,8 @@ ghost use Rattle.std.specs.Prelude.{◌≡◌, ◌<◌, ◌↔◌, length, All, 
 ghost use Rattle.graph_types.specs.Edges.{blocks_of};
 ghost use Rattle.chunk_groups.specs.Grouped.{AreGroupsOver, IsOver};
 
-use fault_place::{GroupNo, ModuleNo};
 use graph_types::{GroupInfo, Groups, ModuleGraph};
+use pack_util::{GroupNo, ModuleNo};
 
 fn are_below(modules: &[ModuleNo], count: u32) -> bool
     ensures { IsTrue result ↔ All (λ m. m.0 < count) modules.now }

@@ -7,8 +7,8 @@ ghost use Rattle.chunk_groups.specs.inner.Marking.{HasReached};
 
 use crate::marking::mark_new;
 use bit_rows::{BitRow, BitTable};
-use fault_place::{GroupNo, ModuleNo, NoMemory};
 use graph_types::{Groups, ModuleGraph};
+use pack_util::{GroupNo, ModuleNo, NoMemory};
 use std::alloc::Global;
 
 /// Marks the modules that the roots reach in a row that has none.

@@ -8,9 +8,9 @@ ghost use Rattle.chunk_groups.specs.ChunkNames.{chunk_names};
 ghost use Rattle.chunk_groups.specs.NameFaults.{block_fault, cache_group_fault, is_entry_name, is_taken, name_faults, name_taken};
 ghost use Rattle.chunk_groups.specs.inner.Filing.{StandsIn};
 
-use fault_place::{Fault, FaultKind, NoMemory, Place, Spot, Text, place_at};
+use fault_place::{Fault, FaultKind, Place, Spot, place_at};
 use graph_types::{Block, CacheGroup, Config, EntrySpec, ModuleGraph};
-use pack_util::add_some;
+use pack_util::{NoMemory, Text, add_some};
 use std::alloc::Global;
 
 fn is_entry_name(entries: &[EntrySpec], name: &Text) -> bool

@@ -10,7 +10,7 @@ pub enum Claim {
 }
 
 /// What a look tells of a file.
-#[derive(Clone, Copy, Debug, PartialEq, Eq)]
+#[derive(Clone, Copy, PartialEq, Eq)]
 pub enum Look {
     /// Nobody owns it.
     Free,

@@ -7,8 +7,8 @@ use crate::ticket::Ticket;
 use crate::words::{claimed_by, owner_in, published_by};
 use atomic_table::Table;
 use board_seats::{Blank, Seating};
-use fault_place::{FileId, NoMemory};
 use graph_types::ModRecord;
+use pack_util::{FileId, NoMemory};
 use std::alloc::Global;
 use std::snapshot::Snapshot;
 

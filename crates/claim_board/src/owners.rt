@@ -1,10 +1,10 @@
 ghost use Rattle.std.specs.Prelude.{◌≡◌, ◌<◌, length, Some, slice_get};
 
-use fault_place::FileId;
+use pack_util::FileId;
 use std::marker::Model;
 
 /// Each file's owner, by the file's number. Only closing a board makes one.
-#[derive(Debug, Drop)]
+#[derive(Drop)]
 pub struct Owners {
     pub(crate) list: Vec<Option<u32>>,
 }

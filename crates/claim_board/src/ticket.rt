@@ -1,5 +1,5 @@
 use crate::rule::Steps;
-use fault_place::FileId;
+use pack_util::FileId;
 use std::snapshot::Snapshot;
 
 /// A seat's right to publish the record of a file that it claimed. Contracts see its board, its seat and its file.

@@ -8,11 +8,11 @@ ghost use Rattle.cli_words.specs.inner.Arguments.{AnswersArguments, IsRead, word
 
 use clap::error::ErrorKind;
 use clap::{Arg, ArgAction, ArgMatches, Command};
-use fault_place::NoMemory;
+use pack_util::NoMemory;
 use std::alloc::{AllocError, Global};
 
 /// What the words behind a command's name give: one positional word, and a value of `--workers` where there is one.
-#[derive(Clone, Copy, Debug)]
+#[derive(Clone, Copy)]
 pub(crate) struct Arguments<'a> {
     pub(crate) word: &'a str,
     pub(crate) workers: Option<&'a str>,

@@ -1,7 +1,7 @@
-use fault_place::Text;
+use pack_util::Text;
 
 /// What a command asks for. Without a number of workers the caller chooses one.
-#[derive(Debug, Drop)]
+#[derive(Drop)]
 pub enum Job {
     /// A build by the configuration at this path, which is normal.
     Build { config: Text, workers: Option<u32> },

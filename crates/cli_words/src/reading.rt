@@ -6,7 +6,7 @@ ghost use Rattle.cli_words.specs.inner.Reading.{AnswersJob, build_of, job_with, 
 use crate::arguments::{Arguments, read_arguments};
 use crate::number::number_of;
 use crate::{Job, WordsEnd};
-use fault_place::{NoMemory, Text};
+use pack_util::{NoMemory, Text};
 use path_text::{PathEnd, normal};
 use std::alloc::{AllocError, Global};
 

@@ -4,7 +4,7 @@ ghost use Rattle.cli_words.specs.declared.words_end.WordsEnd.TheVariants.{NoMemo
 use std::alloc::{AllocError, AllocFailed};
 
 /// Why words ask for nothing.
-#[derive(Clone, Copy, Debug, PartialEq, Eq)]
+#[derive(Clone, Copy, PartialEq, Eq)]
 pub enum WordsEnd {
     /// No command has these words.
     Usage,

@@ -5,7 +5,7 @@ use crate::rule::{Drawing, Positions};
 use crate::seat::{DrawSeat, Token};
 use atomic_table::Table;
 use board_seats::{Blank, Seating};
-use fault_place::NoMemory;
+use pack_util::NoMemory;
 use std::alloc::Global;
 use std::collections::LinkedList;
 

@@ -4,7 +4,7 @@ use Rattle.std.specs.Prelude.{option_to_list, option_map, codes}
 use Rattle.std.specs.List.{AllByRecursion}
 use Rattle.es_tokens.specs.Spans.{AreInOrder, EachBehind}
 use Rattle.es_tokens.specs.declared.token.Token.{Token}
-use Rattle.fault_place.specs.declared.limit.TheConstants.{MAX_TEXT}
+use Rattle.pack_util.specs.declared.number.TheConstants.{MAX_TEXT}
 use Rattle.form_shapes.specs.Names.{specifiers}
 use Rattle.form_shapes.specs.Source.{start_at}
 use Rattle.form_shapes.specs.Standing.{standing_at}

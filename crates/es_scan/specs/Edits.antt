@@ -1,7 +1,7 @@
 -- What the emitted text has in the place of a module's forms (this project).
 use Rattle.std.specs.Prelude.{ℕ, Bool, true, false, ◌+◌, List, [], ◌∷◌, codes, if◌then◌else◌}
 use Rattle.es_tokens.specs.declared.token.Token.{Token}
-use Rattle.fault_place.specs.declared.number.Span.{Span}
+use Rattle.pack_util.specs.declared.number.Span.{Span}
 use Rattle.form_shapes.specs.Source.{end_at}
 use Rattle.form_shapes.specs.declared.form.Form.{Form}
 use Rattle.form_shapes.specs.declared.shape.Shape.{Shape}

@@ -1,7 +1,7 @@
 -- The items of a module: each place at which it names another (ECMA-262 16.2, 13.3.10; `require` as CommonJS has it).
 use Rattle.std.specs.Prelude.{ℕ, ◌+◌, ◌-◌, List, Option, None, Some, option_map, if◌then◌else◌}
 use Rattle.es_tokens.specs.declared.token.Token.{Token}
-use Rattle.fault_place.specs.declared.number.Span.{Span}
+use Rattle.pack_util.specs.declared.number.Span.{Span}
 use Rattle.form_shapes.specs.Source.{start_at, end_at, text_at}
 use Rattle.form_shapes.specs.declared.form.Form.{Form}
 use Rattle.form_shapes.specs.declared.shape.Shape.{Shape}

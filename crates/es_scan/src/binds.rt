@@ -5,9 +5,9 @@ ghost use Rattle.es_scan.specs.Binds.{default_bind, space_bind, named_bind, name
 use crate::list::append;
 use crate::names::{left_name, right_name};
 use es_tokens::Token;
-use fault_place::{NoMemory, Seq, Text};
 use form_shapes::{Shape, Source, Standing, owned};
 use graph_types::Bind;
+use pack_util::{NoMemory, Seq, Text};
 use std::alloc::Global;
 
 fn default_bind(alloc: Global, source: Source, item: u32, at: usize) -> Result<Bind, NoMemory>

@@ -5,7 +5,7 @@ ghost use Rattle.es_scan.specs.Default.{is_on_new_line, behind_star, named_or, d
 use form_shapes::{Sign, Source};
 
 /// What `export default` is followed by.
-#[derive(Clone, Copy, Debug)]
+#[derive(Clone, Copy)]
 pub(crate) enum Default {
     Expression,
     /// A declaration whose name is this token.

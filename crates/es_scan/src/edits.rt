@@ -4,10 +4,10 @@ ghost use Rattle.es_scan.specs.Edits.{fixed, is_removed, default_edits, declared
 use crate::default::{Default, default_at};
 use crate::items::span_of;
 use crate::list::one;
-use fault_place::{NoMemory, Seq, Span, Text};
 use form_shapes::{Form, Shape, Source, Standing};
 use graph_types::{Edit, EditText};
 use magic_comments::{Magic, begins, line_length};
+use pack_util::{NoMemory, Seq, Span, Text};
 use std::alloc::Global;
 
 fn fixed(alloc: Global, span: Span, put: &str) -> Result<Edit, NoMemory>

@@ -5,9 +5,9 @@ use crate::default::{Default, default_at};
 use crate::list::one;
 use crate::names::{left_name, right_name};
 use es_tokens::Token;
-use fault_place::{NoMemory, Seq, Text};
 use form_shapes::{Form, Shape, Source, Standing, owned};
 use graph_types::{Export, ExportFrom};
+use pack_util::{NoMemory, Seq, Text};
 use std::alloc::{AllocError, Global};
 
 /// The module's own name for what it exports as the default without one.

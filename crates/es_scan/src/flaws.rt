@@ -2,13 +2,14 @@ ghost use Rattle.std.specs.Prelude.{◌≡◌, ◌+◌, ◌<◌, ◌^◌, IfOk};
 ghost use Rattle.es_scan.specs.Flaws.{flaw_at, is_method, flaws_by};
 
 use crate::list::one;
-use fault_place::{FaultKind, NoMemory, Seq, Text};
+use fault_place::FaultKind;
 use form_shapes::{Sign, Source, Standing};
 use magic_comments::Magic;
+use pack_util::{NoMemory, Seq, Text};
 use std::alloc::Global;
 
 /// A fault at an offset of the text, whose line and column aren't known yet.
-#[derive(Debug, Drop)]
+#[derive(Drop)]
 pub(crate) struct Flaw {
     pub(crate) offset: u32,
     pub(crate) kind: FaultKind,

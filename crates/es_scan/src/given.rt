@@ -3,12 +3,12 @@ ghost use Rattle.es_scan.specs.inner.Given.{joined};
 
 use crate::flaws::Flaw;
 use crate::list::append;
-use fault_place::{NoMemory, Seq};
 use graph_types::{Bind, Edit, Export, Item, Note, Star};
+use pack_util::{NoMemory, Seq};
 use std::alloc::Global;
 
 /// What some tokens give. Faults have no place yet.
-#[derive(Debug, Drop)]
+#[derive(Drop)]
 pub(crate) struct Given {
     pub(crate) items: Seq<Item>,
     pub(crate) binds: Seq<Bind>,

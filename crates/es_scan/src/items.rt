@@ -2,10 +2,10 @@ ghost use Rattle.std.specs.Prelude.{◌≡◌, ◌+◌, ◌-◌, ◌<◌, ◌^�
 ghost use Rattle.form_shapes.specs.Source.{start_at, end_at};
 ghost use Rattle.es_scan.specs.Items.{declared_kind, span_of, import_item, declared_item, item_by, item_of};
 
-use fault_place::{NoMemory, Span, Text};
 use form_shapes::{Form, Shape, Source, Standing, owned, unquoted};
 use graph_types::{Item, ItemKind};
 use magic_comments::Magic;
+use pack_util::{NoMemory, Span, Text};
 use std::alloc::Global;
 
 /// The kind of a declaration's item, where it names a module.

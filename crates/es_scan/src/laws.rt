@@ -3,7 +3,7 @@ ghost use Rattle.std.specs.Prelude.{◌≡◌, ◌<◌, ◌≤◌, ◌∷◌, []
 ghost use Rattle.std.specs.List.{AllZip};
 ghost use Rattle.es_tokens.specs.Tokens.{tokens_of};
 ghost use Rattle.es_tokens.specs.declared.token.Token.{Token};
-ghost use Rattle.fault_place.specs.declared.limit.TheConstants.{MAX_TEXT};
+ghost use Rattle.pack_util.specs.declared.number.TheConstants.{MAX_TEXT};
 ghost use Rattle.graph_types.specs.Whole.{IsWhole};
 ghost use Rattle.graph_types.specs.declared.item.Item.{Item};
 ghost use Rattle.graph_types.specs.declared.record.ModRecord.{ModRecord};

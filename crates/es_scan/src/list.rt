@@ -1,6 +1,6 @@
 ghost use Rattle.std.specs.Prelude.{◌≡◌, ◌++◌, ◌∷◌, [], option_to_list, OnOk, IfOk};
 
-use fault_place::{NoMemory, Seq};
+use pack_util::{NoMemory, Seq};
 use std::alloc::Global;
 
 /// Adds all members of another list at the end.

@@ -2,10 +2,10 @@ ghost use Rattle.std.specs.Prelude.{◌≡◌, IfOk};
 ghost use Rattle.es_scan.specs.Notes.{notes_by};
 
 use crate::list::one;
-use fault_place::{NoMemory, Seq, Text};
 use form_shapes::{Source, Standing};
 use graph_types::{Note, NoteKind};
 use magic_comments::Magic;
+use pack_util::{NoMemory, Seq, Text};
 use std::alloc::Global;
 
 /// What is told of what stands at a token.

@@ -4,8 +4,9 @@ ghost use Rattle.es_scan.specs.Scan.{export_names, local_names};
 ghost use Rattle.es_scan.specs.inner.Seen.{HasNames};
 
 use crate::flaws::Flaw;
-use fault_place::{FaultKind, NoMemory, Seq, Text};
+use fault_place::FaultKind;
 use graph_types::{Bind, Export};
+use pack_util::{NoMemory, Seq, Text};
 use std::alloc::Global;
 use std::collections::BTreeSet;
 

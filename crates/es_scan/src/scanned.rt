@@ -1,8 +1,9 @@
-use fault_place::{Fault, Seq};
+use fault_place::Fault;
 use graph_types::{Bind, Edit, Export, Item, Note, Star};
+use pack_util::Seq;
 
 /// What a module's text names, all by its places in the text. No item has a target yet.
-#[derive(Debug, PartialEq, Eq, Drop)]
+#[derive(PartialEq, Eq, Drop)]
 pub struct Scan {
     pub items: Seq<Item>,
     pub binds: Seq<Bind>,

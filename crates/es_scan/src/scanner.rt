@@ -23,9 +23,10 @@ use crate::scanned::Scan;
 use crate::stars::{is_declaration, stars_by};
 use es_tokens::Token;
 use es_tokens::laws::{one_list_or_one_fault, spans_lie_in_order};
-use fault_place::{Fault, MAX_TEXT, NoMemory, Places, Seq, Text};
+use fault_place::{Fault, Places};
 use form_shapes::{Declaration, Source, Standing};
 use magic_comments::magic_by;
+use pack_util::{MAX_TEXT, NoMemory, Seq, Text};
 use std::alloc::Global;
 use std::collections::BTreeSet;
 

@@ -2,9 +2,9 @@ ghost use Rattle.std.specs.Prelude.{◌≡◌, IfOk};
 ghost use Rattle.es_scan.specs.Stars.{is_declaration, stars_by};
 
 use crate::list::one;
-use fault_place::{NoMemory, Seq};
 use form_shapes::{Shape, Standing};
 use graph_types::Star;
+use pack_util::{NoMemory, Seq};
 use std::alloc::Global;
 
 /// The star of what stands at a token.

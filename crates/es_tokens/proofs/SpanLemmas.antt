@@ -30,7 +30,7 @@ use Rattle.es_tokens.specs.declared.token.Token.{Token}
 use Rattle.es_tokens.specs.declared.token.TokenClass.{TokenClass}
 use Rattle.es_tokens.specs.declared.token.TokenClass.TheVariants.{Str}
 use Rattle.es_tokens.specs.declared.token.LexToken.{LexToken}
-use Rattle.fault_place.specs.declared.number.Span.{Span}
+use Rattle.pack_util.specs.declared.number.Span.{Span}
 
 taken-front : (front rest : List ℕ) → take (length front) (front ++ rest) ≡ front
 taken-front [] rest = refl

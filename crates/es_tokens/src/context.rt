@@ -4,7 +4,7 @@ ghost use Rattle.es_tokens.specs.Mated.{mate_by};
 
 use crate::role::{Bracket, Role};
 use crate::table;
-use fault_place::NoMemory;
+use pack_util::NoMemory;
 use std::alloc::Global;
 use std::marker::Model;
 

@@ -2,7 +2,7 @@ use crate::ahead::Ahead;
 use crate::context::Context;
 use crate::step::{Next, step};
 use crate::token::{LexToken, TokenFault, TokenKind};
-use fault_place::NoMemory;
+use pack_util::NoMemory;
 use std::alloc::Global;
 use std::marker::Model;
 use std::str;

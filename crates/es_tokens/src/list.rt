@@ -5,7 +5,7 @@ ghost use Rattle.es_tokens.specs.Tokens.{all_of, mated_or_fault, tokens_of, Ends
 use crate::context::Context;
 use crate::step::{Next, step};
 use crate::token::{LexToken, Token, TokenEnd, TokenFault, TokenKind};
-use fault_place::{MAX_TEXT, NoMemory};
+use pack_util::{MAX_TEXT, NoMemory};
 use std::alloc::Global;
 use std::str;
 

@@ -19,7 +19,7 @@ use crate::machine::after_longest;
 use crate::punctuator_role::punctuator_role;
 use crate::role::{Bracket, Role};
 use crate::token::{LexToken, TokenClass, TokenFault, TokenKind};
-use fault_place::Span;
+use pack_util::Span;
 
 /// What stands next in a text.
 #[derive(Clone, Copy)]

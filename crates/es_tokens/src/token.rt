@@ -1,11 +1,11 @@
 ghost use Rattle.std.specs.Prelude.{◌≡◌};
 
-use fault_place::{NoMemory, Span};
+use pack_util::{NoMemory, Span};
 use std::alloc::AllocFailed;
 use std::mem::size_of;
 
 /// What a token is. A punctuator's text, a bracket's too, is that of its span.
-#[derive(Clone, Copy, Debug, PartialEq, Eq)]
+#[derive(Clone, Copy, PartialEq, Eq)]
 pub enum TokenClass {
     Name,
     Keyword,
@@ -24,7 +24,7 @@ pub enum TokenClass {
     Punct,
 }
 
-#[derive(Clone, Copy, Debug, PartialEq, Eq)]
+#[derive(Clone, Copy, PartialEq, Eq)]
 pub struct Token {
     pub span: Span,
     /// The number of the bracket's partner, else the token's own.
@@ -39,7 +39,7 @@ pub struct Token {
 const _: () = prove!(size_of::<Token>() == 16);
 
 /// A token without its partner.
-#[derive(Clone, Copy, Debug, PartialEq, Eq)]
+#[derive(Clone, Copy, PartialEq, Eq)]
 pub struct LexToken {
     pub class: TokenClass,
     pub span: Span,
@@ -47,7 +47,7 @@ pub struct LexToken {
     pub depth: u16,
 }
 
-#[derive(Clone, Copy, Debug, PartialEq, Eq)]
+#[derive(Clone, Copy, PartialEq, Eq)]
 pub enum TokenKind {
     /// The text isn't UTF-8.
     NotUtf8,
@@ -63,14 +63,14 @@ pub enum TokenKind {
     Open,
 }
 
-#[derive(Clone, Copy, Debug, PartialEq, Eq)]
+#[derive(Clone, Copy, PartialEq, Eq)]
 pub struct TokenFault {
     /// In bytes.
     pub offset: u64,
     pub kind: TokenKind,
 }
 
-#[derive(Clone, Copy, Debug, PartialEq, Eq)]
+#[derive(Clone, Copy, PartialEq, Eq)]
 pub enum TokenEnd {
     Fault(TokenFault),
     NoMemory,

@@ -1,4 +1,3 @@
-pub mod formers
 pub mod Fault
 pub mod inner
 pub mod Limit

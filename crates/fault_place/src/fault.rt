@@ -1,12 +1,13 @@
-ghost use Rattle.std.specs.Prelude.{◌≡◌, ◌++◌, OnOk, IfOk, string_bytes};
+ghost use Rattle.std.specs.Prelude.{◌≡◌, ◌++◌, codes, OnOk, IfOk, string_bytes};
 ghost use Rattle.std.specs.Fmt.{decimal};
-ghost use Rattle.fault_place.specs.Fault.{message_of, naming, line_of};
+ghost use Rattle.fault_place.specs.Fault.{message_of, other_asset, line_of};
+ghost use Rattle.fault_place.specs.inner.Wording.{IsWording, worded};
 
 use crate::{NoMemory, Place, Text};
 use std::alloc::Global;
 
 /// What is wrong at a place. Each kind's number stands in its line behind a B.
-#[derive(Clone, Copy, Debug, PartialEq, Eq)]
+#[derive(Clone, Copy, PartialEq, Eq)]
 pub enum FaultKind {
     /// B1
     NotUtf8,
@@ -51,7 +52,7 @@ pub enum FaultKind {
 }
 
 /// A fault of a module, of the configuration or of the assets. The detail is empty where the kind names none.
-#[derive(Clone, Debug, PartialEq, Eq, Drop)]
+#[derive(Clone, PartialEq, Eq, Drop)]
 pub struct Fault {
     pub place: Place,
     pub kind: FaultKind,
@@ -102,52 +103,59 @@ fn push_number(line: &mut String, number: u64) -> Result<(), NoMemory>
     write!(line, "{number}")
 }
 
-fn push_quoted(line: &mut String, before: &str, detail: &str, after: &str) -> Result<(), NoMemory>
-    ensures { OnOk result (string_bytes line.new ≡ string_bytes line.old ++ naming before.now detail.now after.now) }
-{
-    push(line, before)?;
-    push(line, "\"")?;
-    push(line, detail)?;
-    push(line, "\"")?;
-    push(line, after)
+/// What a message says around the detail, which stands between double quotes, or says alone.
+enum Words {
+    Alone(&'static str),
+    Naming(&'static str, &'static str),
 }
 
-fn push_message(line: &mut String, kind: FaultKind, detail: &str) -> Result<(), NoMemory>
-    ensures { OnOk result (string_bytes line.new ≡ string_bytes line.old ++ message_of kind detail.now) }
+/// How a kind is worded, but for the chunks of a clash.
+fn wording(kind: FaultKind) -> Words
+    ensures { IsWording kind result }
 {
     match kind {
-        FaultKind::NotUtf8 => push(line, "text is not UTF-8"),
-        FaultKind::Unfinished => push(line, "unfinished token"),
-        FaultKind::Stray => push(line, "stray character"),
-        FaultKind::Unmatched => push(line, "unmatched bracket"),
-        FaultKind::Depth => push(line, "brackets too deep"),
-        FaultKind::Open => push(line, "text ends in a bracket"),
-        FaultKind::Form => push(line, "form is not supported"),
-        FaultKind::DynamicRequest => push(line, "import() needs one text"),
-        FaultKind::Unresolved => push_quoted(line, "cannot resolve ", detail, ""),
-        FaultKind::NotExported => push_quoted(line, "", detail, " is not exported"),
-        FaultKind::BadManifest => push_quoted(line, "bad manifest ", detail, ""),
-        FaultKind::BadTarget => push_quoted(line, "bad exports in ", detail, ""),
-        FaultKind::EntryOnDemand => push_quoted(line, "chunk name ", detail, " is an entry"),
-        FaultKind::BadJson => push(line, "bad JSON"),
-        FaultKind::BadType => push(line, "module type is not supported"),
-        FaultKind::RepeatedName => push_quoted(line, "name ", detail, " is repeated"),
-        FaultKind::AssetClash { first, other } => push_clash(line, detail, first, other),
-        FaultKind::GroupName => push_quoted(line, "cache group name ", detail, " is taken"),
-        FaultKind::TooLong => push(line, "module is too long"),
-        FaultKind::NotYet => push(line, "form is not built yet"),
+        FaultKind::NotUtf8 => Words::Alone("text is not UTF-8"),
+        FaultKind::Unfinished => Words::Alone("unfinished token"),
+        FaultKind::Stray => Words::Alone("stray character"),
+        FaultKind::Unmatched => Words::Alone("unmatched bracket"),
+        FaultKind::Depth => Words::Alone("brackets too deep"),
+        FaultKind::Open => Words::Alone("text ends in a bracket"),
+        FaultKind::Form => Words::Alone("form is not supported"),
+        FaultKind::DynamicRequest => Words::Alone("import() needs one text"),
+        FaultKind::Unresolved => Words::Naming("cannot resolve ", ""),
+        FaultKind::NotExported => Words::Naming("", " is not exported"),
+        FaultKind::BadManifest => Words::Naming("bad manifest ", ""),
+        FaultKind::BadTarget => Words::Naming("bad exports in ", ""),
+        FaultKind::EntryOnDemand => Words::Naming("chunk name ", " is an entry"),
+        FaultKind::BadJson => Words::Alone("bad JSON"),
+        FaultKind::BadType => Words::Alone("module type is not supported"),
+        FaultKind::RepeatedName => Words::Naming("name ", " is repeated"),
+        FaultKind::AssetClash { .. } => Words::Naming("asset ", " of chunk "),
+        FaultKind::GroupName => Words::Naming("cache group name ", " is taken"),
+        FaultKind::TooLong => Words::Alone("module is too long"),
+        FaultKind::NotYet => Words::Alone("form is not built yet"),
     }
 }
 
-fn push_clash(
-    line: &mut String,
-    detail: &str,
-    first: u32,
-    other: Option<u32>,
-) -> Result<(), NoMemory>
-    ensures { OnOk result (string_bytes line.new ≡ string_bytes line.old ++ message_of (FaultKind.AssetClash first other) detail.now) }
+fn push_wording(line: &mut String, wording: Words, detail: &str) -> Result<(), NoMemory>
+    ensures { OnOk result (string_bytes line.new ≡ string_bytes line.old ++ worded wording detail.now) }
 {
-    push_quoted(line, "asset ", detail, " of chunk ")?;
+    match wording {
+        Words::Alone(words) => push(line, words),
+        Words::Naming(before, after) => {
+            push(line, before)?;
+            push(line, "\"")?;
+            push(line, detail)?;
+            push(line, "\"")?;
+            push(line, after)
+        }
+    }
+}
+
+/// The chunks of a clash: the first one's number, and the other asset.
+fn push_chunks(line: &mut String, first: u32, other: Option<u32>) -> Result<(), NoMemory>
+    ensures { OnOk result (string_bytes line.new ≡ string_bytes line.old ++ (decimal first ++ codes " and " ++ other_asset other)) }
+{
     push_number(line, u64::from(first))?;
     push(line, " and ")?;
     match other {
@@ -157,6 +165,16 @@ fn push_clash(
         }
         None => push(line, "the stats"),
     }
+}
+
+fn push_message(line: &mut String, kind: FaultKind, detail: &str) -> Result<(), NoMemory>
+    ensures { OnOk result (string_bytes line.new ≡ string_bytes line.old ++ message_of kind detail.now) }
+{
+    push_wording(line, wording(kind), detail)?;
+    if let FaultKind::AssetClash { first, other } = kind {
+        push_chunks(line, first, other)?;
+    }
+    Ok(())
 }
 
 /// The fault's line, without an end of line.

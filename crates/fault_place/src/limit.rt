@@ -1,10 +1,7 @@
 ghost use Rattle.std.specs.Prelude.{◌≡◌};
 
-/// The most bytes that the text of a module or of the configuration may have.
-pub const MAX_TEXT: u64 = 4_194_304;
-
 /// What a build counts, and refuses above a number.
-#[derive(Clone, Copy, Debug, PartialEq, Eq)]
+#[derive(Clone, Copy, PartialEq, Eq)]
 pub enum Limit {
     /// Files and folders of the tree, the root not counted.
     Files,

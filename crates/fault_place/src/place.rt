@@ -5,7 +5,7 @@ use crate::{NoMemory, Text};
 use std::alloc::Global;
 
 /// A place in a file: its path, the offset in bytes, and line and column, both from 1.
-#[derive(Clone, Debug, PartialEq, Eq, Drop)]
+#[derive(Clone, PartialEq, Eq, Drop)]
 pub struct Place {
     pub path: Text,
     pub offset: u64,
@@ -14,7 +14,7 @@ pub struct Place {
 }
 
 /// A place in the text of the configuration.
-#[derive(Clone, Copy, Debug, PartialEq, Eq)]
+#[derive(Clone, Copy, PartialEq, Eq)]
 pub struct Spot {
     pub offset: u64,
     pub line: u64,

@@ -8,7 +8,7 @@ use std::marker::Model;
 
 /// The places in one text, which contracts see as the text. Offsets that rise are placed in one pass over it; one that
 /// falls begins a new pass.
-#[derive(Debug, Drop)]
+#[derive(Drop)]
 pub struct Places<'a> {
     text: &'a [u8],
     /// The last place that was asked for.

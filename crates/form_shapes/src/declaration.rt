@@ -7,12 +7,12 @@ use crate::source::{has_sign, rest_from, text_of};
 use crate::variables::{declaration, separates};
 use crate::{Sign, Source};
 use es_tokens::Token;
-use fault_place::NoMemory;
+use pack_util::NoMemory;
 use std::alloc::Global;
 
 /// What is known of the declaration of variables whose first name stands at a token. Declarations that run into each
 /// other end at one place, so what is known of one serves the next, and no token is read again.
-#[derive(Debug, Drop)]
+#[derive(Drop)]
 pub struct Declaration<'a> {
     pub at: usize,
     /// Behind its last token.
@@ -27,7 +27,7 @@ pub struct Declaration<'a> {
 }
 
 /// What stands behind each comma, and behind how many of them each declarator begins with a name.
-#[derive(Debug, Drop)]
+#[derive(Drop)]
 struct Tails<'a> {
     lists: Vec<&'a [Token]>,
     named: usize,

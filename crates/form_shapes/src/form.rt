@@ -4,7 +4,7 @@ ghost use Rattle.form_shapes.specs.Forms.{longer};
 use crate::Shape;
 
 /// A form of a module, by numbers of tokens.
-#[derive(Clone, Copy, Debug, PartialEq, Eq)]
+#[derive(Clone, Copy, PartialEq, Eq)]
 pub struct Form {
     pub shape: Shape,
     /// Of the token behind its parts.

@@ -7,7 +7,7 @@ ghost use Rattle.form_shapes.specs.declared.sign.Sign.TheVariants as sign;
 use crate::source::has_sign;
 use crate::{Side, Sign, Source};
 use es_tokens::Token;
-use fault_place::NoMemory;
+use pack_util::NoMemory;
 use std::alloc::Global;
 
 fn left_sign(side: Side) -> Sign

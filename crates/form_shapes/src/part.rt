@@ -1,7 +1,7 @@
 use crate::Sign;
 
 /// Which name of a specifier has to be one that a module may declare; the other may be a keyword too.
-#[derive(Clone, Copy, Debug, PartialEq, Eq)]
+#[derive(Clone, Copy, PartialEq, Eq)]
 pub enum Side {
     Left,
     Right,
@@ -9,7 +9,7 @@ pub enum Side {
 }
 
 /// A part of a form.
-#[derive(Clone, Copy, Debug, PartialEq, Eq)]
+#[derive(Clone, Copy, PartialEq, Eq)]
 pub enum Part {
     /// One token.
     One(Sign),

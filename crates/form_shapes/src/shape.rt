@@ -4,7 +4,7 @@ ghost use Rattle.form_shapes.specs.Shapes.{import_shapes, export_shapes, require
 use crate::{Part, Side, Sign};
 
 /// A form, by what follows its keyword.
-#[derive(Clone, Copy, Debug, PartialEq, Eq)]
+#[derive(Clone, Copy, PartialEq, Eq)]
 pub enum Shape {
     /// `import "x"`
     BareImport,

@@ -6,7 +6,7 @@ ghost use Rattle.form_shapes.specs.Sign.{is_plain, is_name, is_keyword, is_str, 
 use es_tokens::TokenClass;
 
 /// What a form asks of one token.
-#[derive(Clone, Copy, Debug, PartialEq, Eq)]
+#[derive(Clone, Copy, PartialEq, Eq)]
 pub enum Sign {
     /// A name without a backslash.
     Name,

@@ -7,7 +7,7 @@ use crate::{Declaration, Sign};
 use es_tokens::{Token, TokenClass};
 
 /// A text and its tokens, and what is known of one declaration of variables in them.
-#[derive(Clone, Copy, Debug)]
+#[derive(Clone, Copy)]
 pub struct Source<'a> {
     pub text: &'a [u8],
     pub tokens: &'a [Token],

@@ -1,7 +1,7 @@
 use crate::Form;
 
 /// What stands at a token.
-#[derive(Clone, Copy, Debug, PartialEq, Eq)]
+#[derive(Clone, Copy, PartialEq, Eq)]
 pub enum Standing {
     Nothing,
     /// An import or an export declaration.

@@ -2,7 +2,7 @@ ghost use Rattle.std.specs.Prelude.{◌≡◌, ◌-◌, IfOk, length, slice_rang
 ghost use Rattle.form_shapes.specs.Text.{unquoted};
 
 use crate::part_between;
-use fault_place::{NoMemory, Text};
+use pack_util::{NoMemory, Text};
 use std::alloc::{AllocError, Global};
 use std::str;
 

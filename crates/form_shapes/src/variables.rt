@@ -6,7 +6,7 @@ ghost use Rattle.form_shapes.specs.Variables.{is_value_word, is_operator_word, i
 use crate::source::{has_sign, rest_from, text_of};
 use crate::{Declaration, Sign, Source};
 use es_tokens::{Token, TokenClass};
-use fault_place::NoMemory;
+use pack_util::NoMemory;
 use std::alloc::Global;
 
 fn is(bytes: &[u8], word: &str) -> bool

@@ -4,8 +4,8 @@ use Rattle.std.specs.Prelude.{◌==◌, filter_map, position, option_map}
 use Rattle.std.specs.List.{AllByRecursion}
 use Rattle.std.proofs.lemmas.List.{length-map}
 use Rattle.std.proofs.lemmas.List.Quantifiers.{position-Some}
-use Rattle.fault_place.specs.declared.number.FileId.{FileId}
-use Rattle.fault_place.specs.declared.number.ModuleNo.{ModuleNo}
+use Rattle.pack_util.specs.declared.number.FileId.{FileId}
+use Rattle.pack_util.specs.declared.number.ModuleNo.{ModuleNo}
 use Rattle.graph_types.specs.Modules.{AreNumbersOf, files_of, module_no, module_of}
 use Rattle.graph_types.specs.declared.record.ModRecord.{ModRecord}
 

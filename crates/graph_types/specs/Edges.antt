@@ -1,7 +1,7 @@
 -- What leads from one module to another (this project): at once, or on demand.
 use Rattle.std.specs.Prelude.{ℕ, ◌<◌, ◌^◌, Bool, true, false, List, length, flat_map, filter_map, Option, None, option_map, option_and_then, if◌then◌else◌}
 use Rattle.std.specs.List.{enumerate_from}
-use Rattle.fault_place.specs.declared.number.ModuleNo.{ModuleNo}
+use Rattle.pack_util.specs.declared.number.ModuleNo.{ModuleNo}
 use Rattle.graph_types.specs.declared.block.Block.{Block}
 use Rattle.graph_types.specs.declared.item.Item.{Item}
 use Rattle.graph_types.specs.declared.item.ItemKind.{ItemKind}

@@ -4,7 +4,7 @@ use Rattle.std.specs.List.{AllByRecursion}
 use Rattle.fault_place.specs.Limit.{number_of}
 use Rattle.fault_place.specs.declared.fault.FaultKind.TheVariants.{TooLong}
 use Rattle.fault_place.specs.declared.limit.Limit.TheVariants.{Modules, Blocks}
-use Rattle.fault_place.specs.declared.limit.TheConstants.{MAX_TEXT}
+use Rattle.pack_util.specs.declared.number.TheConstants.{MAX_TEXT}
 use Rattle.graph_types.specs.Edges.{blocks_of}
 use Rattle.graph_types.specs.Modules.{Graph}
 use Rattle.graph_types.specs.Whole.{IsWhole}

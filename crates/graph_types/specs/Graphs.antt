@@ -3,7 +3,7 @@
 use Rattle.std.specs.Prelude.{◌≡◌, ℕ, List, ◌++◌, map, flat_map, filter_map}
 use Rattle.std.specs.List.Sorted.{IsStrictlyIncreasing}
 use Rattle.fault_place.specs.declared.fault.Fault.{Fault}
-use Rattle.fault_place.specs.declared.number.ModuleNo.{ModuleNo}
+use Rattle.pack_util.specs.declared.number.ModuleNo.{ModuleNo}
 use Rattle.graph_types.specs.Modules.{Graph, file_id, module_of}
 use Rattle.graph_types.specs.Reached.{IsReached}
 use Rattle.graph_types.specs.Targets.{targets_by}

@@ -1,6 +1,6 @@
 -- The chunk groups as lists (this project).
 use Rattle.std.specs.Prelude.{List}
-use Rattle.fault_place.specs.declared.number.GroupNo.{GroupNo}
+use Rattle.pack_util.specs.declared.number.GroupNo.{GroupNo}
 use Rattle.graph_types.specs.declared.groups.GroupInfo.{GroupInfo}
 
 -- the groups by number, and the group of each block

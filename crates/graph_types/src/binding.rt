@@ -1,7 +1,7 @@
-use fault_place::Text;
+use pack_util::Text;
 
 /// A local name that an import declares. Without a name it is bound to the whole module.
-#[derive(Clone, Debug, PartialEq, Eq, Drop)]
+#[derive(Clone, PartialEq, Eq, Drop)]
 pub struct Bind {
     pub local: Text,
     /// The number of the import's item.
@@ -10,7 +10,7 @@ pub struct Bind {
 }
 
 /// What an exported name stands for.
-#[derive(Clone, Debug, PartialEq, Eq, Drop)]
+#[derive(Clone, PartialEq, Eq, Drop)]
 pub enum ExportFrom {
     /// A name of the module itself.
     Local(Text),
@@ -20,14 +20,14 @@ pub enum ExportFrom {
     Space(u32),
 }
 
-#[derive(Clone, Debug, PartialEq, Eq, Drop)]
+#[derive(Clone, PartialEq, Eq, Drop)]
 pub struct Export {
     pub name: Text,
     pub from: ExportFrom,
 }
 
 /// An `export *`: all names of the module that the item with this number names.
-#[derive(Clone, Copy, Debug, PartialEq, Eq)]
+#[derive(Clone, Copy, PartialEq, Eq)]
 pub struct Star {
     pub item: u32,
 }

@@ -1,7 +1,7 @@
-use fault_place::ModuleNo;
+use pack_util::ModuleNo;
 
 /// An item that loads its target on demand.
-#[derive(Clone, Copy, Debug, PartialEq, Eq)]
+#[derive(Clone, Copy, PartialEq, Eq)]
 pub struct Block {
     pub module: ModuleNo,
     /// The item's number in its module.

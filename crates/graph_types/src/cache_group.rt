@@ -1,8 +1,9 @@
 use crate::Condition;
-use fault_place::{Spot, Text};
+use fault_place::Spot;
+use pack_util::Text;
 
 /// Which chunks a cache group takes modules from.
-#[derive(Clone, Copy, Debug, PartialEq, Eq)]
+#[derive(Clone, Copy, PartialEq, Eq)]
 pub enum Select {
     /// Those that are loaded on demand.
     Async,
@@ -12,7 +13,7 @@ pub enum Select {
 }
 
 /// A rule by which modules move to chunks of their own.
-#[derive(Debug, Drop)]
+#[derive(Drop)]
 pub struct CacheGroup {
     pub key: Text,
     /// The name of its one chunk, where it has one.

@@ -2,11 +2,11 @@ ghost use Rattle.std.specs.Prelude.{◌≡◌, nat_eq, bytes_eq};
 ghost use Rattle.std.specs.List.{starts_with, ends_with, list_all, list_any, slice_split};
 ghost use Rattle.graph_types.specs.Condition.{has_part, has_folder, holds, is_separator};
 
-use fault_place::{Seq, Text};
+use pack_util::{Seq, Text};
 use sqlite_items::Boxed;
 
 /// A test of a module's path.
-#[derive(Debug, Drop)]
+#[derive(Drop)]
 pub enum Condition {
     /// The path begins so.
     Prefix(Text),

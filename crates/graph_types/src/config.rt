@@ -3,10 +3,10 @@ ghost use Rattle.std.specs.List.{list_all};
 ghost use Rattle.graph_types.specs.CacheGroups.{is_counted};
 
 use crate::{CacheGroup, EntrySpec, Template};
-use fault_place::{Seq, Text};
+use pack_util::{Seq, Text};
 
 /// How to build. Lists stand in the order of the configuration.
-#[derive(Debug, Drop)]
+#[derive(Drop)]
 pub struct Config {
     pub entries: Seq<EntrySpec>,
     /// The names of the entries' chunks.

@@ -5,8 +5,7 @@ ghost use Rattle.graph_types.specs.Modules.{AreModules};
 
 use crate::modules::module_of;
 use crate::{Block, Item, ItemKind, ModRecord};
-use fault_place::{ModuleNo, NoMemory, Seq};
-use pack_util::add_some;
+use pack_util::{ModuleNo, NoMemory, Seq, add_some};
 use std::alloc::Global;
 
 fn is_lazy(kind: ItemKind) -> bool

@@ -1,7 +1,8 @@
-use fault_place::{Seq, Spot, Text};
+use fault_place::Spot;
+use pack_util::{Seq, Text};
 
 /// A file that an entry names, and where the configuration names it.
-#[derive(Clone, Debug, PartialEq, Eq, Drop)]
+#[derive(Clone, PartialEq, Eq, Drop)]
 pub struct EntryFile {
     pub request: Text,
     /// The place of the request's text; of the default, the first of the configuration.
@@ -9,7 +10,7 @@ pub struct EntryFile {
 }
 
 /// An entry of a build.
-#[derive(Clone, Debug, PartialEq, Eq, Drop)]
+#[derive(Clone, PartialEq, Eq, Drop)]
 pub struct EntrySpec {
     pub name: Text,
     pub files: Seq<EntryFile>,

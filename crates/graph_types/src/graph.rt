@@ -5,12 +5,13 @@ ghost use Rattle.graph_types.specs.Modules.{AreModules, AreNumbersOf, module_of}
 use crate::edges::{all_blocks, all_sync_targets};
 use crate::modules::{all_roots, module_of};
 use crate::{Block, ModRecord};
-use fault_place::{Fault, FileId, ModuleNo, NoMemory, Seq};
+use fault_place::Fault;
+use pack_util::{FileId, ModuleNo, NoMemory, Seq};
 use std::alloc::Global;
 use std::marker::Model;
 
 /// The module graph: a record for each reached file, the modules of each entry, and all faults of the make phase.
-#[derive(Debug, Drop)]
+#[derive(Drop)]
 pub struct ModuleGraph {
     records: Vec<ModRecord>,
     sync_targets: Vec<Seq<ModuleNo>>,

@@ -1,10 +1,10 @@
 ghost use Rattle.std.specs.Prelude.{◌≡◌, ◌<◌, ◌^◌, length, slice_index_or, vec_len};
 
-use fault_place::{GroupNo, ModuleNo, Seq, Text};
+use pack_util::{GroupNo, ModuleNo, Seq, Text};
 use std::marker::Model;
 
 /// A set of modules that are loaded together: an entry's, or what blocks load on demand.
-#[derive(Debug, Drop)]
+#[derive(Drop)]
 pub struct GroupInfo {
     /// The entry's place in the configuration, where the group is an entry's.
     pub entry: Option<u32>,
@@ -16,7 +16,7 @@ pub struct GroupInfo {
 }
 
 /// All chunk groups: those of the entries, then those of the chunk names, then those of the blocks without a name.
-#[derive(Debug, Drop)]
+#[derive(Drop)]
 pub struct Groups {
     infos: Vec<GroupInfo>,
     of_block: Vec<GroupNo>,

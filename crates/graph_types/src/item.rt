@@ -1,7 +1,7 @@
-use fault_place::{FileId, Span, Text};
+use pack_util::{FileId, Span, Text};
 
 /// How a module names another.
-#[derive(Clone, Copy, Debug, PartialEq, Eq)]
+#[derive(Clone, Copy, PartialEq, Eq)]
 pub enum ItemKind {
     /// An import declaration.
     Import,
@@ -16,7 +16,7 @@ pub enum ItemKind {
 }
 
 /// One place at which a module names another.
-#[derive(Clone, Debug, PartialEq, Eq, Drop)]
+#[derive(Clone, PartialEq, Eq, Drop)]
 pub struct Item {
     pub kind: ItemKind,
     /// From the keyword to the last byte of the form.

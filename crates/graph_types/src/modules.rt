@@ -4,8 +4,7 @@ ghost use Rattle.std.specs.Ordering.{nat_cmp};
 ghost use Rattle.graph_types.specs.Modules.{AreModules, module_of};
 
 use crate::ModRecord;
-use fault_place::{FileId, ModuleNo, NoMemory, Seq};
-use pack_util::add_some;
+use pack_util::{FileId, ModuleNo, NoMemory, Seq, add_some};
 use std::alloc::Global;
 use std::cmp::Ordering;
 

@@ -1,7 +1,7 @@
-use fault_place::Text;
+use pack_util::Text;
 
 /// What is told of a module beside its faults, by the name under which it is printed.
-#[derive(Clone, Copy, Debug, PartialEq, Eq)]
+#[derive(Clone, Copy, PartialEq, Eq)]
 pub enum NoteKind {
     /// A `require` that names no file: the detail is its request.
     N1,
@@ -14,7 +14,7 @@ pub enum NoteKind {
 }
 
 /// A note at an offset of the module's text.
-#[derive(Clone, Debug, PartialEq, Eq, Drop)]
+#[derive(Clone, PartialEq, Eq, Drop)]
 pub struct Note {
     pub at: u32,
     pub kind: NoteKind,

@@ -1,7 +1,7 @@
-use fault_place::Text;
+use pack_util::Text;
 
 /// A part of an asset's name.
-#[derive(Clone, Debug, PartialEq, Eq, Drop)]
+#[derive(Clone, PartialEq, Eq, Drop)]
 pub enum Part {
     Fixed(Text),
     /// The chunk's name, or else its id.

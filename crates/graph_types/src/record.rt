@@ -1,8 +1,9 @@
 use crate::{Bind, Edit, Export, Item, Note, Star};
-use fault_place::{Bytes, Fault, FileId, Seq, Text};
+use fault_place::Fault;
+use pack_util::{Bytes, FileId, Seq, Text};
 
 /// How a module's text is read.
-#[derive(Clone, Copy, Debug, PartialEq, Eq)]
+#[derive(Clone, Copy, PartialEq, Eq)]
 pub enum ModKind {
     /// An ES module: it has an import or an export declaration.
     Es,
@@ -14,7 +15,7 @@ pub enum ModKind {
 }
 
 /// All that the build knows of one file's text. A record is made once and never changed.
-#[derive(Clone, Debug, PartialEq, Eq, Drop)]
+#[derive(Clone, PartialEq, Eq, Drop)]
 pub struct ModRecord {
     pub file: FileId,
     pub path: Text,

@@ -1,20 +1,20 @@
 use std::alloc::{AllocError, AllocFailed};
 
 /// Why a text is no tree.
-#[derive(Clone, Copy, Debug, PartialEq, Eq)]
+#[derive(Clone, Copy, PartialEq, Eq)]
 pub enum JsonEnd {
     Fault(JsonFault),
     NoMemory,
 }
 
 /// Where a text stops being JSON, in bytes, and how.
-#[derive(Clone, Copy, Debug, PartialEq, Eq)]
+#[derive(Clone, Copy, PartialEq, Eq)]
 pub struct JsonFault {
     pub offset: u64,
     pub kind: JsonKind,
 }
 
-#[derive(Clone, Copy, Debug, PartialEq, Eq)]
+#[derive(Clone, Copy, PartialEq, Eq)]
 pub enum JsonKind {
     /// No JSON text has this byte here.
     Byte,
@@ -25,7 +25,7 @@ pub enum JsonKind {
 }
 
 /// Why the reader doesn't take a byte.
-#[derive(Clone, Copy, Debug, PartialEq, Eq)]
+#[derive(Clone, Copy, PartialEq, Eq)]
 pub(crate) enum Stop {
     Wrong,
     NoMemory,

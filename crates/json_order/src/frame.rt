@@ -5,7 +5,7 @@ use crate::JsonTree;
 use crate::members::Members;
 use crate::seed::Seed;
 use crate::word::Key;
-use fault_place::Seq;
+use pack_util::Seq;
 use std::alloc::{AllocError, Global};
 use std::marker::Model;
 

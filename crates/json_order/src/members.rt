@@ -7,9 +7,9 @@ ghost use Rattle.json_order.specs.inner.Held.{held, pair_of, place_of};
 use crate::seed::Seed;
 use crate::word::Key;
 use crate::{JsonPair, JsonTree};
-use fault_place::{Seq, Text};
 use indexmap::IndexMap;
 use indexmap::map::Entry;
+use pack_util::{Seq, Text};
 use std::alloc::{AllocError, Global};
 use std::marker::Model;
 

@@ -7,7 +7,7 @@ use crate::mode::{Letters, Mode, Part};
 use crate::seed::Seed;
 use crate::word::{Key, Word};
 use crate::{JsonNode, JsonTree};
-use fault_place::{Seq, Text};
+use pack_util::{Seq, Text};
 use std::alloc::{AllocError, Global};
 use std::mem;
 

@@ -7,7 +7,7 @@ use crate::mode::{Digits, Mode, tail_behind};
 use crate::reader::Reader;
 use crate::word::{Key, Word};
 use crate::{JsonNode, JsonTree};
-use fault_place::Text;
+use pack_util::Text;
 use std::alloc::Global;
 use std::mem;
 

@@ -1,7 +1,7 @@
-use fault_place::{Seq, Text};
+use pack_util::{Seq, Text};
 
 /// A value of a JSON text.
-#[derive(Debug, Drop)]
+#[derive(Drop)]
 #[cycle(tree)]
 pub enum JsonNode {
     Null,
@@ -16,7 +16,7 @@ pub enum JsonNode {
 }
 
 /// A value and the offset of its first byte.
-#[derive(Debug, Drop)]
+#[derive(Drop)]
 #[cycle(tree)]
 pub struct JsonTree {
     pub at: u64,
@@ -24,7 +24,7 @@ pub struct JsonTree {
 }
 
 /// A member of an object. A key that is repeated has the place of its first and the value of its last.
-#[derive(Debug, Drop)]
+#[derive(Drop)]
 #[cycle(tree)]
 pub struct JsonPair {
     pub key: Text,

@@ -6,14 +6,14 @@ ghost use Rattle.magic_comments.specs.Magic.{no_magic, read_comments, is_magic, 
 use crate::comment::{begins, content_of, line_length};
 use crate::pair::{are_pairs, is_clean, pairs};
 use es_tokens::{LexToken, Lexer, Token, TokenEnd, tokens};
-use fault_place::{MAX_TEXT, NoMemory, Seq, Text};
 use form_shapes::{Sign, Source, Standing, as_text, owned, part_between, rest_from, unquoted};
 use graph_types::{Note, NoteKind};
+use pack_util::{MAX_TEXT, NoMemory, Seq, Text};
 use path_text::is_normal;
 use std::alloc::{AllocError, Global};
 
 /// What the magic comments of a call of `import` say.
-#[derive(Debug, Drop)]
+#[derive(Drop)]
 pub struct Magic {
     /// The chunk's name.
     pub name: Option<Text>,

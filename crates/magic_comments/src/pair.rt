@@ -5,8 +5,8 @@ ghost use Rattle.std.specs.Char.{is_ascii_alphabetic, is_ascii_digit};
 ghost use Rattle.magic_comments.specs.Pairs.{are_apart, are_pairs, is_clean, is_colon, is_comma, is_key, is_pair, is_value, is_value_of, pairs};
 
 use es_tokens::{Token, TokenClass};
-use fault_place::NoMemory;
 use form_shapes::{Sign, part_between, rest_from, text_of};
+use pack_util::NoMemory;
 use std::alloc::Global;
 
 fn is(bytes: &[u8], word: &str) -> bool

@@ -9,14 +9,14 @@ use Rattle.std.proofs.lemmas.Option.{none-some, same_Some}
 use denote.Enum.Bare.{same_true, true_same}
 use Rattle.fault_place.specs.contracts.fault.FaultKindPartialEq.TheImpl as kind_test
 use Rattle.fault_place.specs.contracts.fault.FaultPartialEq.TheImpl as fault_test
-use Rattle.fault_place.specs.contracts.number.FileIdPartialEq.TheImpl as file_test
-use Rattle.fault_place.specs.contracts.number.SpanPartialEq.TheImpl as span_test
+use Rattle.pack_util.specs.contracts.number.FileIdPartialEq.TheImpl as file_test
+use Rattle.pack_util.specs.contracts.number.SpanPartialEq.TheImpl as span_test
 use Rattle.fault_place.specs.contracts.place.PlacePartialEq.TheImpl as place_test
 use Rattle.fault_place.specs.declared.fault.Fault.{Fault}
 use Rattle.fault_place.specs.declared.fault.FaultKind.{FaultKind}
 use Rattle.fault_place.specs.declared.fault.FaultKind.TheVariants.{NotUtf8, Unfinished, Stray, Unmatched, Depth, Open, Form, DynamicRequest, Unresolved, NotExported, BadManifest, BadTarget, EntryOnDemand, BadJson, BadType, RepeatedName, AssetClash, GroupName, TooLong, NotYet}
-use Rattle.fault_place.specs.declared.number.FileId.{FileId}
-use Rattle.fault_place.specs.declared.number.Span.{Span}
+use Rattle.pack_util.specs.declared.number.FileId.{FileId}
+use Rattle.pack_util.specs.declared.number.Span.{Span}
 use Rattle.fault_place.specs.declared.place.Place.{Place}
 use Rattle.graph_types.specs.contracts.binding.BindPartialEq.TheImpl as bind_test
 use Rattle.graph_types.specs.contracts.binding.ExportFromPartialEq.TheImpl as from_test

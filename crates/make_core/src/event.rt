@@ -1,8 +1,8 @@
-use fault_place::FileId;
 use graph_types::ModRecord;
+use pack_util::FileId;
 
 /// What a worker does in one atomic step.
-#[derive(Debug, PartialEq, Eq, Drop)]
+#[derive(PartialEq, Eq, Drop)]
 pub enum Event {
     /// The worker becomes the file's owner.
     Claim {
@@ -18,5 +18,5 @@ pub enum Event {
 }
 
 /// The event isn't allowed in the state.
-#[derive(Clone, Copy, Debug, PartialEq, Eq)]
+#[derive(Clone, Copy, PartialEq, Eq)]
 pub struct NotAllowed;

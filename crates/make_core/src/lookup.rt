@@ -2,7 +2,7 @@
 ghost use Rattle.std.specs.Prelude.{◌≡◌, ◌↔◌, Some, None, IsTrue, IfOk, replicate, slice_get, option_copied};
 ghost use Rattle.make_core.specs.Core.{value_of};
 
-use fault_place::{FileId, NoMemory};
+use pack_util::{FileId, NoMemory};
 use std::alloc::Global;
 
 /// The map that has no value.

@@ -1,8 +1,8 @@
-use fault_place::{FileId, Seq};
 use graph_types::ModRecord;
+use pack_util::{FileId, Seq};
 
 /// What is to be built: the entry files, and the record of every file, at the place of the file's number.
-#[derive(Debug, PartialEq, Eq, Drop)]
+#[derive(PartialEq, Eq, Drop)]
 pub struct CorePlan {
     pub entries: Seq<FileId>,
     pub recs: Seq<ModRecord>,

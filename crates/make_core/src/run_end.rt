@@ -4,7 +4,7 @@ ghost use Rattle.make_core.specs.declared.run_end.RunEnd.TheVariants.{NoMemory};
 use std::alloc::{AllocError, AllocFailed};
 
 /// Why a list of events leaves no state.
-#[derive(Clone, Copy, Debug, PartialEq, Eq)]
+#[derive(Clone, Copy, PartialEq, Eq)]
 pub enum RunEnd {
     /// The event at this index is the first that isn't allowed.
     NotAllowed { index: u32 },

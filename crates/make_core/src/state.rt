@@ -5,13 +5,13 @@ use crate::lookup::{is_unset, nothing, value_at};
 use crate::quiet::{are_entries_owned, are_finished, are_targets_owned};
 use crate::targets::names;
 use crate::{CorePlan, Event, NotAllowed};
-use fault_place::{FileId, NoMemory};
 use graph_types::ModRecord;
+use pack_util::{FileId, NoMemory};
 use std::alloc::Global;
 use std::marker::Model;
 
 /// Who owns each file, and the record of each file that is done.
-#[derive(Debug, Drop)]
+#[derive(Drop)]
 pub struct CoreState {
     workers: u32,
     owners: Vec<Option<u32>>,

@@ -3,8 +3,8 @@ ghost use Rattle.std.specs.Prelude.{◌≡◌, ◌==◌};
 ghost use Rattle.std.specs.List.{list_any};
 ghost use Rattle.graph_types.specs.Targets.{targets_of};
 
-use fault_place::FileId;
 use graph_types::ModRecord;
+use pack_util::FileId;
 
 /// Whether an item of the record has the file as its target.
 pub(crate) fn names(rec: &ModRecord, file: FileId) -> bool

@@ -2,7 +2,7 @@
 use Rattle.std.proofs.Common.{◌≡◌, ℕ, ◌<◌, List, [], ◌∷◌, ◌++◌, map, refl, ap, ◌∙◌}
 use Rattle.std.specs.List.{AllByRecursion}
 use Rattle.std.specs.Prelude.{Option, Some, None, filter_map, flat_map, option_map}
-use Rattle.fault_place.specs.declared.number.FileId.{FileId}
+use Rattle.pack_util.specs.declared.number.FileId.{FileId}
 use Rattle.graph_types.specs.declared.entry.EntryFile.{EntryFile}
 use Rattle.graph_types.specs.declared.entry.EntrySpec.{EntrySpec}
 use Rattle.module_build.specs.Answers.{file_named}

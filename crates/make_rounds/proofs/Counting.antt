@@ -7,7 +7,7 @@ use Rattle.std.specs.Prelude.{nat_eq, IsTrue}
 use Rattle.fault_place.specs.Limit.{number_of}
 use Rattle.fault_place.specs.declared.limit.Limit.{Limit}
 use Rattle.fault_place.specs.declared.limit.Limit.TheVariants as limits
-use Rattle.fault_place.specs.declared.number.FileId.{FileId}
+use Rattle.pack_util.specs.declared.number.FileId.{FileId}
 use Rattle.graph_types.specs.Reached.{HoldsAll}
 use Rattle.graph_types.specs.declared.record.ModRecord.{ModRecord}
 use Rattle.module_build.proofs.Lists.{all-at}

@@ -9,7 +9,7 @@ use Rattle.std.specs.Prelude.{Contains, IsPermutation, Option, Some, None, count
 use Rattle.fault_place.specs.Limit.{number_of}
 use Rattle.fault_place.specs.declared.fault.Fault.{Fault}
 use Rattle.fault_place.specs.declared.limit.Limit.TheVariants.{Modules, Blocks}
-use Rattle.fault_place.specs.declared.number.FileId.{FileId}
+use Rattle.pack_util.specs.declared.number.FileId.{FileId}
 use Rattle.graph_types.specs.Edges.{HasFewItems, block_of, blocks_in, is_lazy}
 use Rattle.graph_types.specs.Fits.{Fits, IsSized}
 use Rattle.graph_types.specs.Modules.{Graph, module_of}

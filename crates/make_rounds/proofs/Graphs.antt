@@ -5,7 +5,7 @@ use Rattle.std.proofs.lemmas.List.Sorted.{All-permutation, Contains-permutation,
 use Rattle.std.specs.List.{AllByRecursion}
 use Rattle.std.specs.Prelude.{Contains, IsTrue, IsPermutation, filter_map, flat_map}
 use Rattle.fault_place.specs.declared.fault.Fault.{Fault}
-use Rattle.fault_place.specs.declared.number.FileId.{FileId}
+use Rattle.pack_util.specs.declared.number.FileId.{FileId}
 use Rattle.graph_types.specs.Graphs.{IsGraphOf, roots_of}
 use Rattle.graph_types.specs.Modules.{Graph, file_id, files_of, module_of}
 use Rattle.graph_types.specs.Reached.{IsReached}

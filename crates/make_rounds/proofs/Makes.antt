@@ -13,7 +13,7 @@ use Rattle.fault_place.specs.Limit.{number_of}
 use Rattle.fault_place.specs.declared.fault.Fault.{Fault}
 use Rattle.fault_place.specs.declared.limit.Limit.{Limit}
 use Rattle.fault_place.specs.declared.limit.Limit.TheVariants.{Modules, Blocks}
-use Rattle.fault_place.specs.declared.number.FileId.{FileId}
+use Rattle.pack_util.specs.declared.number.FileId.{FileId}
 use Rattle.graph_types.specs.Fits.{Fits}
 use Rattle.graph_types.specs.Graphs.{IsGraphOf}
 use Rattle.graph_types.specs.declared.config.Config.{Config}

@@ -15,7 +15,7 @@ use Rattle.claim_board.specs.declared.board.ClaimBoard.{ClaimBoard}
 use Rattle.claim_board.specs.declared.seat.ClaimSeat.{ClaimSeat}
 use Rattle.fault_place.specs.Limit.{number_of}
 use Rattle.fault_place.specs.declared.limit.Limit.{Limit}
-use Rattle.fault_place.specs.declared.number.FileId.{FileId}
+use Rattle.pack_util.specs.declared.number.FileId.{FileId}
 use Rattle.graph_types.specs.Modules.{Graph, file_id, files_of}
 use Rattle.graph_types.specs.Reached.{HoldsAll, IsReached}
 use Rattle.graph_types.specs.Targets.{targets_by, targets_of}

@@ -11,7 +11,7 @@ use Rattle.claim_board.specs.Lists.{empty_lists}
 use Rattle.claim_board.specs.declared.lists.Lists.{Lists}
 use Rattle.claim_board.specs.declared.seat.ClaimSeat.{ClaimSeat}
 use Rattle.fault_place.specs.declared.limit.Limit.{Limit}
-use Rattle.fault_place.specs.declared.number.FileId.{FileId}
+use Rattle.pack_util.specs.declared.number.FileId.{FileId}
 use Rattle.graph_types.specs.Modules.{file_id}
 use Rattle.graph_types.specs.Reached.{HoldsAll}
 use Rattle.graph_types.specs.declared.config.Config.{Config}

@@ -9,7 +9,7 @@ use Rattle.claim_board.specs.Claims.{lists_of, published, won}
 use Rattle.claim_board.specs.Lists.{empty_lists}
 use Rattle.claim_board.specs.declared.lists.Lists.{Lists}
 use Rattle.claim_board.specs.declared.seat.ClaimSeat.{ClaimSeat}
-use Rattle.fault_place.specs.declared.number.FileId.{FileId}
+use Rattle.pack_util.specs.declared.number.FileId.{FileId}
 use Rattle.graph_types.specs.declared.config.Config.{Config}
 use Rattle.graph_types.specs.declared.record.ModRecord.{ModRecord}
 use Rattle.module_build.proofs.Gains.{gains_none, reads_more, reads_none}

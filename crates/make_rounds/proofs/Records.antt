@@ -6,8 +6,8 @@ use Rattle.std.specs.FinMap.Entries.{find, is_sorted}
 use Rattle.std.specs.Ordering.{eq_by_cmp, nat_cmp}
 use Rattle.std.specs.Prelude.{IsTrue, Option, Some, None, Ok, Err, nat_le, option_map, unwrap_or}
 use Rattle.es_tokens.specs.Tokens.{tokens_of}
-use Rattle.fault_place.specs.declared.limit.TheConstants.{MAX_TEXT}
-use Rattle.fault_place.specs.declared.number.FileId.{FileId}
+use Rattle.pack_util.specs.declared.number.TheConstants.{MAX_TEXT}
+use Rattle.pack_util.specs.declared.number.FileId.{FileId}
 use Rattle.graph_types.specs.Modules.{file_id}
 use Rattle.graph_types.specs.declared.config.Config.{Config}
 use Rattle.graph_types.specs.declared.record.ModRecord.{ModRecord}

@@ -12,7 +12,7 @@ use Rattle.claim_board.specs.Claims.{AreSeatsFrom, AreSeatsOf, IsSeatOf, publish
 use Rattle.claim_board.specs.Lists.{is_in}
 use Rattle.claim_board.specs.declared.board.ClaimBoard.{ClaimBoard}
 use Rattle.claim_board.specs.declared.seat.ClaimSeat.{ClaimSeat}
-use Rattle.fault_place.specs.declared.number.FileId.{FileId}
+use Rattle.pack_util.specs.declared.number.FileId.{FileId}
 use Rattle.graph_types.specs.Modules.{file_id}
 use Rattle.graph_types.specs.Reached.{HoldsAll, IsClosed}
 use Rattle.graph_types.specs.Targets.{targets_by, targets_of}

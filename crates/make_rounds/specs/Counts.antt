@@ -4,7 +4,7 @@ use Rattle.std.specs.List.{IsDistinct, count_by, sum_by}
 use Rattle.fault_place.specs.Limit.{number_of}
 use Rattle.fault_place.specs.declared.limit.Limit.{Limit}
 use Rattle.fault_place.specs.declared.limit.Limit.TheVariants.{Modules, TextBytes, Items, Blocks}
-use Rattle.fault_place.specs.declared.limit.TheConstants.{MAX_TEXT}
+use Rattle.pack_util.specs.declared.number.TheConstants.{MAX_TEXT}
 use Rattle.graph_types.specs.Edges.{is_lazy}
 use Rattle.graph_types.specs.Reached.{HoldsAll, IsClosed}
 use Rattle.graph_types.specs.Targets.{targets_by}

@@ -1,7 +1,7 @@
 -- The files of entries, and what is told of their requests that name none (webpack, "Entry and Context"; this project).
 use Rattle.std.specs.Prelude.{ℕ, List, [], map, flat_map, filter_map, Option, option_map}
 use Rattle.fault_place.specs.declared.fault.Fault.{Fault}
-use Rattle.fault_place.specs.declared.number.FileId.{FileId}
+use Rattle.pack_util.specs.declared.number.FileId.{FileId}
 use Rattle.fault_place.specs.declared.place.Place.{Place}
 use Rattle.fault_place.specs.declared.place.Spot.{Spot}
 use Rattle.graph_types.specs.declared.config.Config.{Config}

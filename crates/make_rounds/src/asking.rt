@@ -8,9 +8,9 @@ ghost use Rattle.resolve_path.specs.Resolves.{KeepsManifests};
 ghost use Rattle.make_rounds.specs.inner.Answered.{FindsAnswers, FindsEntry};
 
 use crate::entry_answer::EntryAnswer;
-use fault_place::{NoMemory, Seq};
 use graph_types::{Config, EntryFile};
 use outside::{OutsideEnd, TreeReader};
+use pack_util::{NoMemory, Seq};
 use resolve_path::{ManifestCache, RequestKind, Resolution, resolve};
 use std::alloc::Global;
 use tree_listing::Listing;

@@ -10,9 +10,9 @@ use crate::counts::check_limits;
 use crate::graph::graph;
 use crate::{Grown, MakeEnd};
 use claim_board::{ClaimBoard, ClaimSeat, Owners};
-use fault_place::{Fault, FileId, NoMemory, Seq};
+use fault_place::Fault;
 use graph_types::ModRecord;
-use pack_util::add_some;
+use pack_util::{FileId, NoMemory, Seq, add_some};
 use std::alloc::{AllocError, Global};
 
 /// The owners and the records that the closed board tells. Nothing but want of memory keeps it from that.

@@ -7,11 +7,12 @@ ghost use Rattle.graph_types.specs.Edges.{HasFewItems, is_lazy};
 ghost use Rattle.make_rounds.specs.Counts.{counted};
 ghost use Rattle.make_rounds.specs.inner.Counting.{IsAllowed, IsExceeded, counts_of, with_file, with_record};
 
-use fault_place::{Limit, MAX_TEXT};
+use fault_place::Limit;
 use graph_types::{Item, ItemKind, ModRecord};
+use pack_util::MAX_TEXT;
 
 /// What limits count of the modules so far.
-#[derive(Clone, Copy, Debug)]
+#[derive(Clone, Copy)]
 pub(crate) struct Counts {
     pub(crate) modules: u64,
     pub(crate) text_bytes: u64,

@@ -10,11 +10,11 @@ ghost use Rattle.make_rounds.specs.inner.Answered.{FindsEntries, answer_fault, a
 
 use crate::asking::ask_entries;
 use crate::entry_answer::EntryAnswer;
-use fault_place::{Fault, FileId, NoMemory, Place, Seq, Spot, Text};
+use fault_place::{Fault, Place, Spot};
 use graph_types::Config;
 use module_build::refusal;
 use outside::{OutsideEnd, TreeReader};
-use pack_util::add_some;
+use pack_util::{FileId, NoMemory, Seq, Text, add_some};
 use resolve_path::{ManifestCache, Resolution};
 use std::alloc::Global;
 use tree_listing::Listing;

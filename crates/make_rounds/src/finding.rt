@@ -8,9 +8,9 @@ ghost use Rattle.make_rounds.specs.inner.Starting.{AreReady, FindsFirst, Starts}
 
 use crate::entry_files::{Entries, find_entries};
 use claim_board::{ClaimBoard, ClaimSeat};
-use fault_place::{FileId, NoMemory, Seq};
 use graph_types::Config;
 use outside::{OutsideEnd, TreeReader};
+use pack_util::{FileId, NoMemory, Seq};
 use resolve_path::ManifestCache;
 use std::alloc::Global;
 use tree_listing::Listing;

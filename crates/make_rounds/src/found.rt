@@ -9,7 +9,8 @@ ghost use Rattle.make_rounds.specs.inner.Found.{IsCounted, marked};
 
 use crate::counts::Counts;
 use bit_rows::BitRow;
-use fault_place::{FileId, Limit, NoMemory};
+use fault_place::Limit;
+use pack_util::{FileId, NoMemory};
 use std::alloc::Global;
 use tree_listing::Listing;
 

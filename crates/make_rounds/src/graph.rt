@@ -7,8 +7,9 @@ ghost use Rattle.graph_types.specs.Edges.{HasFewItems};
 ghost use Rattle.graph_types.specs.Modules.{AreAscending, files_of};
 ghost use Rattle.make_rounds.specs.inner.Closed.{IsGraphFrom};
 
-use fault_place::{Fault, FileId, NoMemory, Seq};
+use fault_place::Fault;
 use graph_types::{ModRecord, ModuleGraph};
+use pack_util::{FileId, NoMemory, Seq};
 use std::alloc::Global;
 
 fn file_number(rec: &ModRecord) -> u32

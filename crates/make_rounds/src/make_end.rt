@@ -8,7 +8,7 @@ use outside::OutsideEnd;
 use std::alloc::{AllocError, AllocFailed};
 
 /// Why no graph was made.
-#[derive(Clone, Copy, Debug, PartialEq, Eq)]
+#[derive(Clone, Copy, PartialEq, Eq)]
 pub enum MakeEnd {
     /// A read failed, and the reader's count of faults rose.
     ReadFault,

@@ -7,7 +7,7 @@ use Rattle.es_scan.specs.Whole.{AreLikeItems, IsWholeScan, TellsOf}
 use Rattle.es_scan.specs.declared.scanned.Scan.{Scan}
 use Rattle.fault_place.specs.Fault.{fault_cmp, in_order, placed}
 use Rattle.fault_place.specs.declared.fault.Fault.{Fault}
-use Rattle.fault_place.specs.declared.number.FileId.{FileId}
+use Rattle.pack_util.specs.declared.number.FileId.{FileId}
 use Rattle.graph_types.specs.Whole.{IsWhole, is_require}
 use Rattle.graph_types.specs.declared.item.Item.{Item}
 use Rattle.graph_types.specs.declared.record.ModRecord.{ModRecord}

@@ -7,7 +7,7 @@ use Rattle.std.specs.FinMap.Entries.{is_some-find}
 use Rattle.std.specs.Ordering.{nat_cmp, eq_by_cmp}
 use Rattle.std.proofs.lemmas.List.{get_or-map, length-map}
 use Rattle.std.proofs.lemmas.List.Folds.{list_any_at}
-use Rattle.fault_place.specs.declared.limit.TheConstants.{MAX_TEXT}
+use Rattle.pack_util.specs.declared.number.TheConstants.{MAX_TEXT}
 use Rattle.outside.specs.Tree.{Tree, bytes_at, files_of}
 use Rattle.outside.specs.Reads.{read_of}
 use Rattle.outside.specs.declared.entry.ReadGot.{ReadGot}

@@ -3,7 +3,7 @@ use Rattle.std.specs.Prelude.{ℕ, Bool, true, false, ◌&&◌, List, Option, No
 use Rattle.fault_place.specs.Place.{place_in}
 use Rattle.fault_place.specs.declared.fault.Fault.{Fault}
 use Rattle.fault_place.specs.declared.fault.FaultKind.TheVariants as kinds
-use Rattle.fault_place.specs.declared.number.FileId.{FileId}
+use Rattle.pack_util.specs.declared.number.FileId.{FileId}
 use Rattle.fault_place.specs.declared.place.Place.{Place}
 use Rattle.graph_types.specs.Whole.{is_require}
 use Rattle.graph_types.specs.declared.item.Item.{Item}

@@ -1,8 +1,8 @@
 -- The record of a module (this project): what its text says, with each request resolved.
 use Rattle.std.specs.Prelude.{ℕ, List, [], ◌++◌, map, filter_map, unwrap_or}
 use Rattle.fault_place.specs.Fault.{in_order}
-use Rattle.fault_place.specs.declared.limit.TheConstants.{MAX_TEXT}
-use Rattle.fault_place.specs.declared.number.FileId.{FileId}
+use Rattle.pack_util.specs.declared.number.TheConstants.{MAX_TEXT}
+use Rattle.pack_util.specs.declared.number.FileId.{FileId}
 use Rattle.graph_types.specs.Modules.{file_id}
 use Rattle.graph_types.specs.declared.config.Config.{Config}
 use Rattle.graph_types.specs.declared.item.Item.{Item}

@@ -1,7 +1,7 @@
 -- What holds of each record, whatever a reader gives (this project).
 use Rattle.std.specs.Prelude.{◌≡◌, ℕ, ◌<◌, IfSome}
 use Rattle.std.specs.List.{AllByRecursion}
-use Rattle.fault_place.specs.declared.number.FileId.{FileId}
+use Rattle.pack_util.specs.declared.number.FileId.{FileId}
 use Rattle.graph_types.specs.Fits.{IsSized}
 use Rattle.graph_types.specs.Whole.{IsWhole}
 use Rattle.graph_types.specs.declared.record.ModRecord.{ModRecord}

@@ -9,9 +9,9 @@ ghost use Rattle.module_build.specs.Record.{answered};
 use crate::asked::Asked;
 use crate::merging::merged;
 use crate::refusing::{request_fault, request_note};
-use fault_place::{Fault, FileId, NoMemory, Places, Seq, sort_faults};
+use fault_place::{Fault, Places, sort_faults};
 use graph_types::{Item, ModRecord, Note};
-use pack_util::add_some;
+use pack_util::{FileId, NoMemory, Seq, add_some};
 use resolve_path::Resolution;
 use std::alloc::Global;
 

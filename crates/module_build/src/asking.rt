@@ -11,9 +11,9 @@ ghost use Rattle.module_build.specs.Answers.{asks_as};
 ghost use Rattle.module_build.specs.inner.Asks.{FindsAll};
 
 use crate::asked::Asked;
-use fault_place::NoMemory;
 use graph_types::{Config, Item, ItemKind};
 use outside::{OutsideEnd, TreeReader};
+use pack_util::NoMemory;
 use resolve_path::{ManifestCache, RequestKind, Resolution, resolve};
 use std::alloc::Global;
 use tree_listing::Listing;

@@ -3,8 +3,8 @@ ghost use Rattle.std.specs.Prelude.{◌≡◌, ◌≤◌, ◌<◌, ◌⊎◌, le
 ghost use Rattle.module_build.specs.Merged.{merged};
 ghost use Rattle.module_build.specs.inner.Next.{is_first_next};
 
-use fault_place::NoMemory;
 use graph_types::Note;
+use pack_util::NoMemory;
 use std::alloc::Global;
 
 /// Whether the next note is the first list's, where some are left.

@@ -4,8 +4,9 @@ ghost use Rattle.module_build.specs.Answers.{is_left, is_missing, refusal, reque
 ghost use Rattle.graph_types.specs.Whole.{is_require};
 
 use crate::asked::Asked;
-use fault_place::{Fault, FaultKind, NoMemory, Place, Places, Text};
+use fault_place::{Fault, FaultKind, Place, Places};
 use graph_types::{ItemKind, Note, NoteKind};
+use pack_util::{NoMemory, Text};
 use resolve_path::Resolution;
 use std::alloc::Global;
 

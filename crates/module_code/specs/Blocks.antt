@@ -2,7 +2,7 @@
 use Rattle.std.specs.Prelude.{ℕ, ◌==◌, ◌&&◌, Bool, List, position, slice_get, Option}
 use Rattle.std.specs.Option.{option_map_or}
 use Rattle.chunk_graph.specs.Chunks.{group_at}
-use Rattle.fault_place.specs.declared.number.ChunkNo.{ChunkNo}
+use Rattle.pack_util.specs.declared.number.ChunkNo.{ChunkNo}
 use Rattle.graph_types.specs.Edges.{blocks_of}
 use Rattle.graph_types.specs.declared.block.Block.{Block}
 use Rattle.graph_types.specs.declared.record.ModRecord.{ModRecord}

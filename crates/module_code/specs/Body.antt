@@ -2,7 +2,7 @@
 use Rattle.std.specs.Prelude.{ℕ, List, [], ◌∷◌, ◌++◌, drop, slice_get, codes, Option, Some, None}
 use Rattle.std.specs.List.{slice_range}
 use Rattle.std.specs.Option.{option_map_or}
-use Rattle.fault_place.specs.declared.number.ModuleNo.{ModuleNo}
+use Rattle.pack_util.specs.declared.number.ModuleNo.{ModuleNo}
 use Rattle.graph_types.specs.declared.edit.Edit.{Edit}
 use Rattle.graph_types.specs.declared.edit.EditText.{EditText}
 use Rattle.graph_types.specs.declared.edit.EditText.TheVariants.{Fixed, Load}

@@ -3,7 +3,7 @@ use Rattle.std.specs.Prelude.{ℕ, Bool, List, ◌++◌, map, slice_get, codes, 
 use Rattle.std.specs.Option.{option_map_or}
 use Rattle.chunk_graph.specs.Chunks.{State}
 use Rattle.chunk_graph.specs.Moves.{id_of}
-use Rattle.fault_place.specs.declared.number.ChunkNo.{ChunkNo}
+use Rattle.pack_util.specs.declared.number.ChunkNo.{ChunkNo}
 use Rattle.graph_types.specs.declared.item.Item.{Item}
 use Rattle.graph_types.specs.declared.record.ModRecord.{ModRecord}
 use Rattle.module_code.specs.Numbers.{target_of}

@@ -1,7 +1,7 @@
 -- The numbers by which a module's text names what it imports (this project).
 use Rattle.std.specs.Prelude.{ℕ, ◌==◌, Bool, List, length, map, take, slice_index, count_by, Option, Some, None, option_and_then, if◌then◌else◌}
 use Rattle.std.specs.List.{list_any, range_with_len}
-use Rattle.fault_place.specs.declared.number.ModuleNo.{ModuleNo}
+use Rattle.pack_util.specs.declared.number.ModuleNo.{ModuleNo}
 use Rattle.graph_types.specs.declared.binding.Star.{Star}
 use Rattle.graph_types.specs.declared.item.Item.{Item}
 use Rattle.graph_types.specs.declared.record.ModRecord.{ModRecord}

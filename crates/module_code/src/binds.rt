@@ -4,9 +4,8 @@ ghost use Rattle.module_code.specs.Quoted.{with_commas};
 
 use crate::numbers::number_of;
 use crate::quoted::{add_comma, add_quoted};
-use fault_place::{NoMemory, Text};
 use graph_types::Bind;
-use pack_util::{add, add_around};
+use pack_util::{NoMemory, Text, add, add_around};
 
 fn add_bound_name(text: &mut Vec<u8>, name: &Option<Text>) -> Result<(), NoMemory>
     ensures { OnOk result (text.new.items ≡ text.old.items ++ bound_name name.now) }

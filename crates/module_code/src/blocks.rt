@@ -8,8 +8,8 @@ ghost use Rattle.module_code.specs.inner.Places.{place_of};
 ghost use Rattle.module_code.specs.View.{IsSealing};
 
 use crate::SealView;
-use fault_place::{ChunkNo, ModuleNo};
 use graph_types::Block;
+use pack_util::{ChunkNo, ModuleNo};
 use std::cmp::Ordering;
 
 /// Compares the places of two items, each the number of its module and its own.

@@ -11,9 +11,8 @@ use crate::SealView;
 use crate::blocks::{block_at, chunks_of_block};
 use crate::ids::{add_ids, add_module_id, add_target_id, chunk_ids};
 use crate::numbers::target_of;
-use fault_place::{ModuleNo, NoMemory};
 use graph_types::{EditText, Item, ItemKind, ModRecord};
-use pack_util::add;
+use pack_util::{ModuleNo, NoMemory, add};
 
 fn add_require(
     text: &mut Vec<u8>,

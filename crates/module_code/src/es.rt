@@ -10,9 +10,8 @@ use crate::body::add_body;
 use crate::exports::add_exports;
 use crate::loads::add_loads;
 use crate::numbers::load_numbers;
-use fault_place::{ModuleNo, NoMemory};
 use graph_types::ModRecord;
-use pack_util::add;
+use pack_util::{ModuleNo, NoMemory, add};
 
 fn add_imported_names(text: &mut Vec<u8>, numbers: &[u32], rec: &ModRecord) -> Result<(), NoMemory>
     requires { numbers.now ≡ load_numbers rec.now.items }

@@ -4,9 +4,8 @@ ghost use Rattle.module_code.specs.Quoted.{with_commas};
 
 use crate::numbers::number_of;
 use crate::quoted::{add_comma, add_quoted};
-use fault_place::NoMemory;
 use graph_types::{Export, ExportFrom};
-use pack_util::{add, add_around};
+use pack_util::{NoMemory, add, add_around};
 
 fn add_value(text: &mut Vec<u8>, numbers: &[u32], from: &ExportFrom) -> Result<(), NoMemory>
     ensures { OnOk result (text.new.items ≡ text.old.items ++ value_text numbers.now from.now) }

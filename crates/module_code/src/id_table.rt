@@ -4,7 +4,7 @@ ghost use Rattle.std.specs.List.{count_by, range_with_len};
 ghost use Rattle.chunk_graph.specs.Moves.{id_of};
 
 use chunk_graph::ChunkGraph;
-use fault_place::{ChunkNo, NoMemory};
+use pack_util::{ChunkNo, NoMemory};
 use std::alloc::Global;
 
 /// The id of a chunk, where so many of the chunks before it aren't gone.

@@ -9,9 +9,8 @@ use crate::id_table::{all_ids, id_at};
 use crate::numbers::target_of;
 use crate::quoted::{add_comma, add_quoted};
 use chunk_graph::ChunkGraph;
-use fault_place::{ChunkNo, ModuleNo, NoMemory};
 use graph_types::{Item, ModuleGraph};
-use pack_util::{add, add_number, add_some};
+use pack_util::{ChunkNo, ModuleNo, NoMemory, add, add_number, add_some};
 use std::alloc::Global;
 
 fn path_of(graph: &ModuleGraph, m: ModuleNo) -> &str

@@ -6,9 +6,8 @@ ghost use Rattle.module_code.specs.Numbers.{load_numbers};
 use crate::SealView;
 use crate::ids::add_target_id;
 use crate::numbers::{declares, starred_items};
-use fault_place::NoMemory;
 use graph_types::{Item, ModRecord};
-use pack_util::{add, add_around};
+use pack_util::{NoMemory, add, add_around};
 
 fn add_one_load(
     text: &mut Vec<u8>,

@@ -6,9 +6,8 @@ ghost use Rattle.module_code.specs.View.{IsSealing};
 use crate::SealView;
 use crate::body::add_body;
 use crate::es::add_es;
-use fault_place::{ModuleNo, NoMemory};
 use graph_types::{ModKind, ModRecord};
-use pack_util::{BYTE_ORDER_MARK, add};
+use pack_util::{BYTE_ORDER_MARK, ModuleNo, NoMemory, add};
 use std::alloc::Global;
 
 fn add_plain(

@@ -2,8 +2,8 @@ ghost use Rattle.std.specs.Prelude.{◌≡◌, ℕ, ◌<◌, ◌^◌, length, ma
 ghost use Rattle.graph_types.specs.Whole.{declares};
 ghost use Rattle.module_code.specs.Numbers.{load_numbers, is_starred, target_of};
 
-use fault_place::{ModuleNo, NoMemory};
 use graph_types::{Item, ItemKind, ModuleGraph, Star};
+use pack_util::{ModuleNo, NoMemory};
 use std::alloc::Global;
 
 /// Whether an item is an import or an export with a module's name.

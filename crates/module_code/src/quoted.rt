@@ -1,8 +1,7 @@
 ghost use Rattle.std.specs.Prelude.{◌≡◌, ◌++◌, ◌==◌, [], codes, OnOk, if◌then◌else◌};
 ghost use Rattle.module_code.specs.Quoted.{quoted_text};
 
-use fault_place::NoMemory;
-use pack_util::add;
+use pack_util::{NoMemory, add};
 use serde_json::Value;
 
 /// Adds a text as a JSON string.

@@ -2,8 +2,8 @@
 use Rattle.std.proofs.Common.{◌≤◌, ℕ, List, length, refl}
 use Rattle.es_scan.specs.Whole.{IsWholeScan}
 use Rattle.es_scan.specs.declared.scanned.Scan.{Scan}
-use Rattle.fault_place.specs.declared.limit.TheConstants.{MAX_TEXT}
-use Rattle.fault_place.specs.declared.number.FileId.{FileId}
+use Rattle.pack_util.specs.declared.number.TheConstants.{MAX_TEXT}
+use Rattle.pack_util.specs.declared.number.FileId.{FileId}
 use Rattle.module_parse.specs.Scripts.{scanned_record}
 use Rattle.module_parse.specs.Whole.{IsParsed}
 

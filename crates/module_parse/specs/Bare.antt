@@ -4,7 +4,7 @@ use Rattle.fault_place.specs.Place.{place_in}
 use Rattle.fault_place.specs.declared.fault.Fault.{Fault}
 use Rattle.fault_place.specs.declared.fault.FaultKind.{FaultKind}
 use Rattle.fault_place.specs.declared.fault.FaultKind.TheVariants.{TooLong}
-use Rattle.fault_place.specs.declared.number.FileId.{FileId}
+use Rattle.pack_util.specs.declared.number.FileId.{FileId}
 use Rattle.graph_types.specs.declared.record.ModKind.{ModKind}
 use Rattle.graph_types.specs.declared.record.ModKind.TheVariants.{Bad}
 use Rattle.graph_types.specs.declared.record.ModRecord.{ModRecord}

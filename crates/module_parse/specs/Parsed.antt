@@ -4,7 +4,7 @@ use Rattle.std.specs.Prelude.{ℕ, Bool, ◌||◌, List, codes, nat_eq, length, 
 use Rattle.std.specs.List.{ends_with}
 use Rattle.es_tokens.specs.Tokens.{tokens_of}
 use Rattle.fault_place.specs.declared.fault.FaultKind.TheVariants.{BadJson, BadType}
-use Rattle.fault_place.specs.declared.number.FileId.{FileId}
+use Rattle.pack_util.specs.declared.number.FileId.{FileId}
 use Rattle.graph_types.specs.declared.record.ModKind.TheVariants.{Json, Bad}
 use Rattle.graph_types.specs.declared.record.ModRecord.{ModRecord}
 use Rattle.json_order.specs.Answer.{IsAnswer}

@@ -8,7 +8,7 @@ use Rattle.es_tokens.specs.declared.token.TokenKind.{TokenKind}
 use Rattle.es_tokens.specs.declared.token.TokenKind.TheVariants as tokens
 use Rattle.fault_place.specs.declared.fault.FaultKind.{FaultKind}
 use Rattle.fault_place.specs.declared.fault.FaultKind.TheVariants.{NotUtf8, Unfinished, Stray, Unmatched, Depth, Open}
-use Rattle.fault_place.specs.declared.number.FileId.{FileId}
+use Rattle.pack_util.specs.declared.number.FileId.{FileId}
 use Rattle.graph_types.specs.declared.record.ModKind.{ModKind}
 use Rattle.graph_types.specs.declared.record.ModKind.TheVariants.{Es, Plain}
 use Rattle.graph_types.specs.declared.record.ModRecord.{ModRecord}

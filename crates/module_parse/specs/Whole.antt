@@ -1,8 +1,8 @@
 -- A record on which the later phases may rely, but for the targets of its items, which come later (this project).
 use Rattle.std.specs.Prelude.{◌≡◌, ◌<◌, ◌≤◌, ◌^◌, length}
 use Rattle.std.specs.List.{AllByRecursion}
-use Rattle.fault_place.specs.declared.limit.TheConstants.{MAX_TEXT}
-use Rattle.fault_place.specs.declared.number.FileId.{FileId}
+use Rattle.pack_util.specs.declared.number.TheConstants.{MAX_TEXT}
+use Rattle.pack_util.specs.declared.number.FileId.{FileId}
 use Rattle.graph_types.specs.Whole.{EditsWell, ExportsWell, IsItem, LieInOrder, declares}
 use Rattle.graph_types.specs.declared.record.ModRecord.{ModRecord}
 

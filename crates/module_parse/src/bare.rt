@@ -1,34 +1,57 @@
 //! Records that name nothing.
 ghost use Rattle.std.specs.Prelude.{◌≡◌, ◌≤◌, [], ◌∷◌, length, IfOk};
-ghost use Rattle.module_parse.specs.Bare.{bare_record, fault_at, faulty_record, long_record};
+ghost use Rattle.module_parse.specs.Bare.{fault_at, faulty_record, long_record};
+ghost use Rattle.module_parse.specs.inner.Known.{known_record};
 
-use fault_place::{Bytes, Fault, FaultKind, FileId, NoMemory, Seq, Text, place_at};
+use fault_place::{Fault, FaultKind, place_at};
 use graph_types::{ModKind, ModRecord};
+use pack_util::{Bytes, FileId, NoMemory, Seq, Text};
 use std::alloc::Global;
 
-/// A record of which nothing but the file is known.
+/// A record of which nothing but the file, its text and its faults are known.
 pub fn bare_record(
     alloc: Global,
     file: FileId,
     path: &str,
     size: u64,
     kind: ModKind,
+    text: Bytes,
+    faults: Seq<Fault>,
 ) -> Result<ModRecord, NoMemory>
-    ensures { IfOk result (λ rec. rec ≡ bare_record file path.now size kind) }
+    ensures { IfOk result (λ rec. rec ≡ known_record file path.now size kind text faults) }
 {
+    let path = Text::new(alloc, path)?;
     Ok(ModRecord {
         file,
-        path: Text::new(alloc, path)?,
+        path,
         size,
         kind,
-        text: Bytes::new(alloc, b"")?,
+        text,
         items: Seq::new(alloc),
         binds: Seq::new(alloc),
         exports: Seq::new(alloc),
         stars: Seq::new(alloc),
         edits: Seq::new(alloc),
         notes: Seq::new(alloc),
-        faults: Seq::new(alloc),
+        faults,
+    })
+}
+
+/// A fault that names nothing.
+fn fault_at(
+    alloc: Global,
+    path: &str,
+    text: &[u8],
+    offset: u64,
+    kind: FaultKind,
+) -> Result<Fault, NoMemory>
+    requires { offset ≤ length text.now }
+    ensures { IfOk result (λ fault. fault ≡ fault_at path.now text.now offset kind) }
+{
+    Ok(Fault {
+        place: place_at(alloc, path, text, offset)?,
+        kind,
+        detail: Text::new(alloc, "")?,
     })
 }
 
@@ -42,12 +65,9 @@ fn one_fault(
     requires { offset ≤ length text.now }
     ensures { IfOk result (λ faults. faults ≡ fault_at path.now text.now offset kind ∷ []) }
 {
+    let fault = fault_at(alloc, path, text, offset, kind)?;
     let mut faults = Seq::new(alloc);
-    faults.push(Fault {
-        place: place_at(alloc, path, text, offset)?,
-        kind,
-        detail: Text::new(alloc, "")?,
-    })?;
+    faults.push(fault)?;
     Ok(faults)
 }
 
@@ -66,10 +86,7 @@ pub fn faulty_record(
 {
     let faults = one_fault(alloc, path, text.get(), offset, fault)?;
     let size = text.get().len() as u64;
-    let mut rec = bare_record(alloc, file, path, size, kind)?;
-    rec.faults = faults;
-    rec.text = text;
-    Ok(rec)
+    bare_record(alloc, file, path, size, kind, text, faults)
 }
 
 /// The record of a file that is too long to be read, by its length.
@@ -81,7 +98,7 @@ pub fn long_record(
 ) -> Result<ModRecord, NoMemory>
     ensures { IfOk result (λ rec. rec ≡ long_record file path.now size) }
 {
-    let mut rec = bare_record(alloc, file, path, size, ModKind::Bad)?;
-    rec.faults = one_fault(alloc, path, b"", 0, FaultKind::TooLong)?;
-    Ok(rec)
+    let faults = one_fault(alloc, path, b"", 0, FaultKind::TooLong)?;
+    let text = Bytes::new(alloc, b"")?;
+    bare_record(alloc, file, path, size, ModKind::Bad, text, faults)
 }

@@ -6,10 +6,11 @@ ghost use Rattle.module_parse.specs.Whole.{IsParsed};
 
 use crate::bare::{bare_record, faulty_record};
 use crate::script::script_record;
-use fault_place::{Bytes, FaultKind, FileId, MAX_TEXT, NoMemory};
+use fault_place::FaultKind;
 use graph_types::{ModKind, ModRecord};
 use json_order::laws::faults_lie_in_the_text;
 use json_order::{JsonEnd, read};
+use pack_util::{Bytes, FileId, MAX_TEXT, NoMemory, Seq};
 use std::alloc::{AllocError, Global};
 
 #[tactic(auto, using(std::proofs::lemmas::Str::Pattern::ends_text))]
@@ -36,9 +37,8 @@ fn value_record(alloc: Global, file: FileId, path: &str, text: Bytes) -> Result<
     ensures { IfOk result (λ rec. rec ≡ value_record file path.now text) }
 {
     let size = text.get().len() as u64;
-    let mut rec = bare_record(alloc, file, path, size, ModKind::Json)?;
-    rec.text = text;
-    Ok(rec)
+    let faults = Seq::new(alloc);
+    bare_record(alloc, file, path, size, ModKind::Json, text, faults)
 }
 
 /// The record of a text that is to be one JSON value.

@@ -5,13 +5,14 @@ ghost use Rattle.es_scan.specs.Scan.{scan_of};
 ghost use Rattle.module_parse.specs.Scripts.{fault_kind, scanned_record, script_kind, script_record};
 ghost use Rattle.module_parse.specs.Whole.{IsParsed};
 
-use crate::bare::{bare_record, faulty_record};
+use crate::bare::faulty_record;
 use es_scan::laws::scan_is_whole;
 use es_scan::{Scan, scan};
 use es_tokens::laws::faults_lie_in_the_text;
 use es_tokens::{Token, TokenEnd, TokenKind, tokens};
-use fault_place::{Bytes, FaultKind, FileId, MAX_TEXT, NoMemory};
+use fault_place::FaultKind;
 use graph_types::{ModKind, ModRecord};
+use pack_util::{Bytes, FileId, MAX_TEXT, NoMemory, Text};
 use std::alloc::{AllocError, Global};
 
 fn script_kind(es: bool) -> ModKind
@@ -45,16 +46,21 @@ fn scanned_record(
     ensures { IfOk result (λ rec. rec ≡ scanned_record file path.now text scan) }
 {
     let size = text.get().len() as u64;
-    let mut rec = bare_record(alloc, file, path, size, script_kind(scan.es))?;
-    rec.text = text;
-    rec.items = scan.items;
-    rec.binds = scan.binds;
-    rec.exports = scan.exports;
-    rec.stars = scan.stars;
-    rec.edits = scan.edits;
-    rec.notes = scan.notes;
-    rec.faults = scan.faults;
-    Ok(rec)
+    let path = Text::new(alloc, path)?;
+    Ok(ModRecord {
+        file,
+        path,
+        size,
+        kind: script_kind(scan.es),
+        text,
+        items: scan.items,
+        binds: scan.binds,
+        exports: scan.exports,
+        stars: scan.stars,
+        edits: scan.edits,
+        notes: scan.notes,
+        faults: scan.faults,
+    })
 }
 
 fn record_of_tokens(

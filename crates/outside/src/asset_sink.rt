@@ -1,9 +1,9 @@
 use crate::OutsideEnd;
-use fault_place::{Bytes, Text};
+use pack_util::{Bytes, Text};
 use std::alloc::Global;
 
 /// A file that a build makes.
-#[derive(Clone, Debug, PartialEq, Eq, Drop)]
+#[derive(Clone, PartialEq, Eq, Drop)]
 pub struct Asset {
     pub name: Text,
     pub bytes: Bytes,

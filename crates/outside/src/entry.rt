@@ -1,7 +1,7 @@
-use fault_place::{Bytes, Text};
+use pack_util::{Bytes, Text};
 
 /// What a file is read for.
-#[derive(Clone, Copy, Debug, PartialEq, Eq)]
+#[derive(Clone, Copy, PartialEq, Eq)]
 pub enum Why {
     Config,
     Module,
@@ -9,13 +9,13 @@ pub enum Why {
 }
 
 /// What a read gave: all of the file's bytes, or that there are more than were asked for.
-#[derive(Debug, PartialEq, Eq, Drop)]
+#[derive(PartialEq, Eq, Drop)]
 pub enum ReadGot {
     Whole(Bytes),
     TooLong,
 }
 
-#[derive(Clone, Copy, Debug, PartialEq, Eq)]
+#[derive(Clone, Copy, PartialEq, Eq)]
 pub enum EntryKind {
     /// A file of so many bytes.
     File(u64),
@@ -23,7 +23,7 @@ pub enum EntryKind {
 }
 
 /// An entry of a folder.
-#[derive(Clone, Debug, PartialEq, Eq, Drop)]
+#[derive(Clone, PartialEq, Eq, Drop)]
 pub struct DirEntry {
     pub name: Text,
     pub kind: EntryKind,

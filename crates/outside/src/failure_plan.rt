@@ -5,7 +5,7 @@ ghost use Rattle.outside.specs.Failures.{fails_now, fresh};
 use std::marker::Model;
 
 /// The calls in which a form in memory fails, and how often it has.
-#[derive(Debug, Drop)]
+#[derive(Drop)]
 pub struct FailurePlan {
     calls: Vec<u64>,
     call: u64,

@@ -5,7 +5,7 @@ ghost use Rattle.std.specs.Cmp.Lexicographic.{slice_cmp};
 ghost use Rattle.std.specs.FinMap.Entries.{find, is_sorted, put};
 ghost use Rattle.outside.specs.inner.Cut.{IsCut, is_before, has_prefix};
 
-use fault_place::{Bytes, NoMemory, Text};
+use pack_util::{Bytes, NoMemory, Text};
 
 /// How many files stand before a path.
 pub fn count_before(files: &[(Text, Bytes)], path: &[u8]) -> usize

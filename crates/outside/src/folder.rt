@@ -12,7 +12,7 @@ ghost use Rattle.outside.specs.inner.Walk.{child_in, is_last_name, kind_of_rest,
 
 use crate::files::files_with_prefix;
 use crate::{DirEntry, EntryKind};
-use fault_place::{Bytes, NoMemory, Text};
+use pack_util::{Bytes, NoMemory, Text};
 use std::alloc::Global;
 
 pub fn is_folder(files: &[(Text, Bytes)], folder: &str) -> bool

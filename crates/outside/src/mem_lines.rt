@@ -4,12 +4,12 @@ ghost use Rattle.outside.specs.Sinks.{Puts};
 
 use crate::failure_plan::FailurePlan;
 use crate::{LineSink, OutsideEnd};
-use fault_place::Bytes;
+use pack_util::Bytes;
 use std::alloc::Global;
 use std::marker::Model;
 
 /// A sink that keeps the lines, which contracts see as them and the calls in which it fails.
-#[derive(Debug, Drop)]
+#[derive(Drop)]
 pub struct MemLines {
     lines: Vec<Bytes>,
     plan: FailurePlan,

@@ -8,11 +8,11 @@ ghost use Rattle.outside.specs.declared.outside_end.OutsideEnd.TheVariants.{Fail
 
 use crate::failure_plan::FailurePlan;
 use crate::{DirEntry, MemTree, OutsideEnd, ReadGot, TreeReader, Why};
-use fault_place::{Bytes, NoMemory, Text};
+use pack_util::{Bytes, NoMemory, Text};
 use std::alloc::Global;
 
 /// A reader of a tree in memory.
-#[derive(Debug, Drop)]
+#[derive(Drop)]
 pub struct MemReader<'a> {
     tree: &'a MemTree,
     plan: FailurePlan,

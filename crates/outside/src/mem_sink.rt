@@ -4,12 +4,12 @@ ghost use Rattle.outside.specs.Sinks.{Puts, asset};
 
 use crate::failure_plan::FailurePlan;
 use crate::{Asset, AssetSink, OutsideEnd};
-use fault_place::{Bytes, Text};
+use pack_util::{Bytes, Text};
 use std::alloc::Global;
 use std::marker::Model;
 
 /// A sink that keeps the assets, which contracts see as them and the calls in which it fails.
-#[derive(Debug, Drop)]
+#[derive(Drop)]
 pub struct MemSink {
     held: Vec<Asset>,
     plan: FailurePlan,

@@ -6,13 +6,13 @@ ghost use Rattle.outside.specs.Additions.{Becomes, clashes, has_file_above, with
 
 use crate::files::{files_with_prefix, find_file, put_file};
 use crate::{DirEntry, TreeEnd, folder};
-use fault_place::{Bytes, NoMemory, Text};
+use pack_util::{Bytes, NoMemory, Text};
 use path_text::is_normal;
 use std::alloc::Global;
 use std::marker::Model;
 
 /// A tree in memory, which contracts see as its files in byte order of path.
-#[derive(Debug, Drop)]
+#[derive(Drop)]
 pub struct MemTree {
     files: Vec<(Text, Bytes)>,
 }

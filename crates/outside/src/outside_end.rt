@@ -4,7 +4,7 @@ ghost use Rattle.outside.specs.declared.outside_end.OutsideEnd.TheVariants.{NoMe
 use std::alloc::{AllocError, AllocFailed};
 
 /// Why a call on something outside gave nothing.
-#[derive(Clone, Copy, Debug, PartialEq, Eq)]
+#[derive(Clone, Copy, PartialEq, Eq)]
 pub enum OutsideEnd {
     /// The thing itself failed, and its count of faults rose.
     Failed,

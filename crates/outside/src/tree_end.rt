@@ -4,7 +4,7 @@ ghost use Rattle.outside.specs.declared.tree_end.TreeEnd.TheVariants.{NoMemory};
 use std::alloc::{AllocError, AllocFailed};
 
 /// Why a file was not added to a tree.
-#[derive(Clone, Copy, Debug, PartialEq, Eq)]
+#[derive(Clone, Copy, PartialEq, Eq)]
 pub enum TreeEnd {
     /// The path is not normal.
     NotNormal,

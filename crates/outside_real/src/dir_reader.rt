@@ -1,7 +1,7 @@
 use crate::faults::counted;
 use crate::system::{open_plain, place_below, require_folder};
-use fault_place::{Bytes, Text};
 use outside::{DirEntry, EntryKind, OutsideEnd, ReadGot, TreeReader, Why};
+use pack_util::{Bytes, Text};
 use path_text::is_segment;
 use std::alloc::Global;
 use std::io::Read;

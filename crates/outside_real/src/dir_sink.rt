@@ -1,7 +1,7 @@
 use crate::faults::counted;
 use crate::system::{holds, make_place_below, replace};
-use fault_place::Text;
 use outside::{AssetSink, OutsideEnd};
+use pack_util::Text;
 use path_text::parent;
 use std::alloc::Global;
 use std::rt::Files;

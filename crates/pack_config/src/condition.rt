@@ -7,9 +7,9 @@ ghost use Rattle.pack_config.specs.inner.Known.{known_faults};
 use crate::ConfigKind;
 use crate::found::Found;
 use crate::value::text;
-use fault_place::{NoMemory, Seq, Text};
 use graph_types::Condition;
 use json_order::{JsonNode, JsonPair, JsonTree};
+use pack_util::{NoMemory, Seq, Text};
 use sqlite_items::Boxed;
 use std::alloc::Global;
 

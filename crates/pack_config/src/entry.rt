@@ -10,9 +10,9 @@ use crate::found::Found;
 use crate::member::{members_of, value_at};
 use crate::place::{FIRST, Places};
 use crate::value::{object, text};
-use fault_place::{NoMemory, Seq, Text};
 use graph_types::{EntryFile, EntrySpec};
 use json_order::{JsonNode, JsonPair, JsonTree};
+use pack_util::{NoMemory, Seq, Text};
 use path_text::is_normal;
 use std::alloc::Global;
 

@@ -4,20 +4,20 @@ ghost use Rattle.pack_config.specs.Faults.{rank};
 use std::alloc::{AllocError, AllocFailed};
 
 /// Why a text gives no configuration.
-#[derive(Clone, Copy, Debug, PartialEq, Eq)]
+#[derive(Clone, Copy, PartialEq, Eq)]
 pub enum ConfigEnd {
     Fault(ConfigFault),
     NoMemory,
 }
 
 /// What is wrong in a configuration, and where: the offset is in bytes.
-#[derive(Clone, Copy, Debug, PartialEq, Eq)]
+#[derive(Clone, Copy, PartialEq, Eq)]
 pub struct ConfigFault {
     pub offset: u64,
     pub kind: ConfigKind,
 }
 
-#[derive(Clone, Copy, Debug, PartialEq, Eq)]
+#[derive(Clone, Copy, PartialEq, Eq)]
 pub enum ConfigKind {
     /// The text has too many bytes.
     TooLong,

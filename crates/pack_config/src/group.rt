@@ -13,9 +13,10 @@ use crate::member::{text_of, truth_of, value_at};
 use crate::place::{FIRST, Places};
 use crate::shared::{Base, Limits, limited_object, read_limits};
 use crate::value::{signed, truth};
-use fault_place::{NoMemory, Seq, Spot, Text};
+use fault_place::Spot;
 use graph_types::{CacheGroup, Condition};
 use json_order::JsonTree;
+use pack_util::{NoMemory, Seq, Text};
 use path_text::is_normal;
 use std::alloc::Global;
 

@@ -8,9 +8,9 @@ use crate::found::Found;
 use crate::member::value_at;
 use crate::template::template;
 use crate::value::{object, one_of, text, whole};
-use fault_place::{NoMemory, Text};
 use graph_types::Template;
 use json_order::JsonTree;
+use pack_util::{NoMemory, Text};
 use std::alloc::Global;
 
 /// How the assets are named.

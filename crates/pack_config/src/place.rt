@@ -3,7 +3,8 @@ ghost use Rattle.std.specs.Prelude.{◌≡◌, ◌≤◌, ◌<◌, ◌+◌, ◌-
 ghost use Rattle.fault_place.specs.Place.{spot_at};
 ghost use Rattle.pack_config.specs.inner.Marks.{IsMark};
 
-use fault_place::{NoMemory, Spot};
+use fault_place::Spot;
+use pack_util::NoMemory;
 use std::alloc::Global;
 use std::marker::Model;
 

@@ -19,9 +19,9 @@ use crate::resolve::{Resolve, read_resolve};
 use crate::split::split_chunks;
 use crate::value::{object, one_of, only_false, truth};
 use crate::{ConfigEnd, ConfigFault, ConfigKind};
-use fault_place::{MAX_TEXT, NoMemory, Seq};
 use graph_types::{CacheGroup, Config, EntrySpec};
 use json_order::{JsonEnd, JsonTree, read};
+use pack_util::{MAX_TEXT, NoMemory, Seq};
 use std::alloc::Global;
 
 /// The configuration that a text is, or its first fault.

@@ -8,8 +8,8 @@ ghost use Rattle.pack_config.specs.inner.Seen.{HasNamesOf};
 use crate::ConfigKind;
 use crate::found::Found;
 use crate::member::{text_of, value_at};
-use fault_place::{NoMemory, Text};
 use json_order::JsonPair;
+use pack_util::{NoMemory, Text};
 use std::alloc::Global;
 use std::collections::BTreeSet;
 

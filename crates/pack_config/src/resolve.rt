@@ -9,8 +9,8 @@ use crate::ConfigKind;
 use crate::found::Found;
 use crate::member::{pairs_of, value_at};
 use crate::value::{object, text, texts};
-use fault_place::{NoMemory, Seq, Text};
 use json_order::{JsonPair, JsonTree};
+use pack_util::{NoMemory, Seq, Text};
 use std::alloc::Global;
 
 /// How requests are resolved.

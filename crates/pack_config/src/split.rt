@@ -13,9 +13,9 @@ use crate::place::Places;
 use crate::repeated::note_repeated;
 use crate::shared::{Base, limited_object, read_limits};
 use crate::value::only_false;
-use fault_place::{NoMemory, Seq};
 use graph_types::CacheGroup;
 use json_order::{JsonPair, JsonTree};
+use pack_util::{NoMemory, Seq};
 use std::alloc::Global;
 
 /// How many cache groups there may be.

@@ -8,9 +8,9 @@ ghost use Rattle.pack_config.specs.inner.Found.{after};
 use crate::found::Found;
 use crate::member::text_of;
 use asset_names::{TemplateEnd, read_template};
-use fault_place::{NoMemory, Seq};
 use graph_types::Template;
 use json_order::JsonTree;
+use pack_util::{NoMemory, Seq};
 use std::alloc::{AllocError, Global};
 
 /// The template that a text is, else the default. Where the text is none the template is empty.

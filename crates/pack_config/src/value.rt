@@ -8,8 +8,8 @@ use crate::ConfigKind;
 use crate::found::Found;
 use crate::member::{is_listed, items_of, number_of, pairs_of, text_of, truth_of};
 use crate::number::{has_minus, is_whole, limit_of, magnitude_of, signed_by, within};
-use fault_place::{NoMemory, Seq, Text};
 use json_order::{JsonPair, JsonTree};
+use pack_util::{NoMemory, Seq, Text};
 use std::alloc::Global;
 
 pub(crate) fn text<'a>(found: &mut Found, value: Option<&'a JsonTree>) -> Option<&'a str>

@@ -5,10 +5,10 @@ ghost use Rattle.std.specs.Prelude.{◌<◌, IfOk, vec_len};
 
 mod words;
 
-use fault_place::{NoMemory, Text};
 use outside::LineSink;
 use outside_real::{DirReader, DirSink, StdLines};
 use pack_run::{End, READERS, run};
+use pack_util::{NoMemory, Text};
 use std::process::ExitCode;
 use std::rt::Files;
 use words::words;

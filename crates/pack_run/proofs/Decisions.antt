@@ -3,7 +3,7 @@ use Rattle.std.proofs.Common.{◌≡◌, ℕ, List, [], ◌∷◌, ◌++◌, app
 use Rattle.std.proofs.lemmas.List.Sorted.{IsPermutation-refl}
 use Rattle.std.specs.List.{IsDistinct}
 use Rattle.std.specs.Prelude.{nat_eq, Some, is_some, IsErrOf, IsTrue, Result, Ok, Err}
-use Rattle.fault_place.specs.declared.limit.TheConstants.{MAX_TEXT}
+use Rattle.pack_util.specs.declared.number.TheConstants.{MAX_TEXT}
 use Rattle.graph_types.specs.declared.config.Config.{Config}
 use Rattle.outside.specs.Logs.{is_config, paths_for}
 use Rattle.outside.specs.Reads.{read_of}

@@ -3,7 +3,7 @@ use Rattle.std.proofs.Common.{◌≡◌, ℕ, ◌<◌, Bool, true, false, cond, 
 use Rattle.std.proofs.lemmas.Bool.Decides.{nat_tests}
 use Rattle.std.specs.Prelude.{nat_le}
 use Rattle.fault_place.specs.Place.{place_in}
-use Rattle.fault_place.specs.declared.limit.TheConstants.{MAX_TEXT}
+use Rattle.pack_util.specs.declared.number.TheConstants.{MAX_TEXT}
 use Rattle.fault_place.specs.declared.place.Place.{Place}
 use Rattle.graph_types.specs.declared.config.Config.{Config as BuildConfig}
 use Rattle.outside.specs.Reads.{read_of}

@@ -9,10 +9,11 @@ use crate::Verdict;
 use crate::decide_tree::decide_tree;
 use crate::first::read_first;
 use crate::steps::readers_keep;
-use fault_place::{NoMemory, Place, place_at};
+use fault_place::{Place, place_at};
 use graph_types::Config;
 use outside::{OutsideEnd, ReadGot, TreeReader};
 use pack_config::{ConfigEnd, ConfigFault, ConfigKind, read_config};
+use pack_util::NoMemory;
 use std::alloc::{AllocError, Global};
 use std::thread::Threads;
 

@@ -1,7 +1,7 @@
 use fault_place::Limit;
 
 /// How a command ended.
-#[derive(Clone, Copy, Debug, PartialEq, Eq)]
+#[derive(Clone, Copy, PartialEq, Eq)]
 pub enum End {
     Built,
     /// There are so many faults.

@@ -2,8 +2,8 @@
 ghost use Rattle.std.specs.Prelude.{◌<◌, vec_len};
 ghost use Rattle.pack_run.specs.inner.First.{Lists, OnFirst, Reads};
 
-use fault_place::MAX_TEXT;
 use outside::{OutsideEnd, ReadGot, TreeReader, Why};
+use pack_util::MAX_TEXT;
 use std::alloc::Global;
 use tree_listing::{ListEnd, Listing, list};
 

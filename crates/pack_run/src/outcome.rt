@@ -7,9 +7,10 @@ ghost use Rattle.pack_run.specs.Report.{CanReport, IsOfBuild};
 ghost use Rattle.pack_run.specs.Verdict.{IsGraphVerdict, build_of};
 
 use crate::{Build, Verdict};
-use fault_place::{Bytes, Fault, NoMemory, Seq, Text, sort_faults};
+use fault_place::{Fault, sort_faults};
 use graph_types::{Config, ModuleGraph};
 use outside::Asset;
+use pack_util::{Bytes, NoMemory, Seq, Text};
 use seal_build::laws::sealed_serves;
 use seal_build::{SealEnd, Sealed, seal_by_one};
 use std::alloc::{AllocError, Global};

@@ -3,8 +3,8 @@ ghost use Rattle.std.specs.Prelude.{◌≡◌, OnOk, OnErr};
 ghost use Rattle.outside.specs.Cause.{HasCause};
 ghost use Rattle.pack_run.specs.Report.{Adds, AddsProperFront};
 
-use fault_place::Bytes;
 use outside::{Asset, AssetSink, LineSink, OutsideEnd};
+use pack_util::Bytes;
 use std::alloc::Global;
 
 /// Puts the assets in order.

@@ -5,9 +5,8 @@ ghost use Rattle.pack_run.specs.Sample.{build_hash, sample_line, sample_lines};
 use crate::verdict_lines::{one, verdict_lines};
 use crate::{Build, Verdict};
 use asset_names::content_hash;
-use fault_place::{Bytes, NoMemory, Text};
 use outside::Asset;
-use pack_util::{add, add_around};
+use pack_util::{Bytes, NoMemory, Text, add, add_around};
 use std::alloc::Global;
 
 /// The digits of the hash that stands for all assets.

@@ -2,8 +2,8 @@
 ghost use Rattle.std.specs.Prelude.{◌≡◌, ◌≤◌, length, IfOk};
 ghost use Rattle.pack_run.specs.inner.Fresh.{AreFresh};
 
-use fault_place::NoMemory;
 use outside::{MemReader, MemTree};
+use pack_util::NoMemory;
 use std::alloc::Global;
 
 /// So many readers of a tree, before their first call.

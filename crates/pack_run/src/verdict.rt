@@ -1,9 +1,10 @@
-use fault_place::{Fault, Limit, Place, Seq};
+use fault_place::{Fault, Limit, Place};
 use outside::Asset;
 use pack_config::ConfigKind;
+use pack_util::Seq;
 
 /// What a build of a tree comes to, whoever reads the tree and however often a call fails.
-#[derive(Debug, Drop)]
+#[derive(Drop)]
 pub enum Verdict {
     /// The words are refused.
     Usage,
@@ -17,7 +18,7 @@ pub enum Verdict {
 }
 
 /// What a build makes.
-#[derive(Debug, Drop)]
+#[derive(Drop)]
 pub struct Build {
     pub modules: u32,
     pub groups: u32,

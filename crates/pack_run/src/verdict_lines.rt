@@ -4,9 +4,9 @@ ghost use Rattle.fault_place.specs.Limit.{name_of, number_of};
 ghost use Rattle.pack_run.specs.Verdict.{config_kind_name, lines_of, config_line, limit_line, count_line, built_line};
 
 use crate::{Build, Verdict};
-use fault_place::{Bytes, Fault, Limit, NoMemory, Place, fault_line};
+use fault_place::{Fault, Limit, Place, fault_line};
 use pack_config::ConfigKind;
-use pack_util::{add, add_around, add_number};
+use pack_util::{Bytes, NoMemory, add, add_around, add_number};
 use std::alloc::Global;
 
 const USAGE: &[u8] =

@@ -1,3 +1,4 @@
 pub mod Answers
+pub mod formers
 pub mod Lists
 pub mod Mark

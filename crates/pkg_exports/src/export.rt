@@ -10,8 +10,8 @@ use crate::key::begins_with_dot;
 use crate::map::map_outcome;
 use crate::outcome::Outcome;
 use crate::target::outcome_of;
-use fault_place::Text;
 use json_order::{JsonNode, JsonPair, JsonTree};
+use pack_util::Text;
 use std::alloc::Global;
 
 fn has_dotted(pairs: &[JsonPair]) -> bool

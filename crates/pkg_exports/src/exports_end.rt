@@ -4,7 +4,7 @@ ghost use Rattle.pkg_exports.specs.declared.exports_end.ExportsEnd.TheVariants.{
 use std::alloc::{AllocError, AllocFailed};
 
 /// Why `exports` gives a subpath no answer.
-#[derive(Clone, Copy, Debug, PartialEq, Eq)]
+#[derive(Clone, Copy, PartialEq, Eq)]
 pub enum ExportsEnd {
     /// Some key of `exports` begins with `.` and some doesn't.
     Mixed,

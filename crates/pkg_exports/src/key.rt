@@ -4,7 +4,7 @@ ghost use Rattle.std.specs.Str.{all_ascii_digits};
 ghost use Rattle.std.specs.Str.Parse.{digits_value};
 ghost use Rattle.pkg_exports.specs.Keys.{begins_with_dot, is_array_index, is_met};
 
-use fault_place::Text;
+use pack_util::Text;
 
 pub fn begins_with_dot(key: &str) -> bool
     ensures { result ≡ begins_with_dot key.now }

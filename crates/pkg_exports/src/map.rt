@@ -10,8 +10,8 @@ use crate::outcome::Outcome;
 use crate::segment::has_refused_segment;
 use crate::star::{has_star, matched_part};
 use crate::target::outcome_of;
-use fault_place::{NoMemory, Text};
 use json_order::JsonPair;
+use pack_util::{NoMemory, Text};
 use std::alloc::Global;
 
 fn is_exact(pair: &JsonPair, subpath: &str) -> bool

@@ -1,10 +1,10 @@
 ghost use Rattle.std.specs.Prelude.{◌≡◌};
 ghost use Rattle.pkg_exports.specs.inner.Steps.{later_of};
 
-use fault_place::Text;
+use pack_util::Text;
 
 /// What a value of `exports` is as a target.
-#[derive(Debug, Drop)]
+#[derive(Drop)]
 pub enum Outcome {
     /// No key of an object counts.
     Undefined,

@@ -6,8 +6,8 @@ ghost use Rattle.pkg_exports.specs.Targets.{list_outcome, object_outcome, outcom
 use crate::key::{is_array_index, is_met};
 use crate::outcome::{Outcome, later};
 use crate::text::text_outcome;
-use fault_place::{NoMemory, Text};
 use json_order::{JsonNode, JsonPair, JsonTree};
+use pack_util::{NoMemory, Text};
 use std::alloc::Global;
 
 /// What a value is as a target, where each `*` becomes `star`.

@@ -5,7 +5,7 @@ ghost use Rattle.pkg_exports.specs.Targets.{filled, is_allowed, is_forbidden, te
 
 use crate::outcome::Outcome;
 use crate::segment::has_refused_segment;
-use fault_place::{MAX_TEXT, NoMemory, Text};
+use pack_util::{MAX_TEXT, NoMemory, Text};
 use std::alloc::{AllocError, Global};
 
 fn has_forbidden(text: &str) -> bool

@@ -1,12 +1,12 @@
 ghost use Rattle.std.specs.Prelude.{◌≡◌, IfOk, find};
 ghost use Rattle.pkg_manifest.specs.Manifest.{mains_of, is_exports, exports_of, manifest_of};
 
-use fault_place::{NoMemory, Seq, Text};
 use json_order::{JsonNode, JsonPair, JsonTree};
+use pack_util::{NoMemory, Seq, Text};
 use std::alloc::Global;
 
 /// The fields of a manifest.
-#[derive(Debug, Drop)]
+#[derive(Drop)]
 pub struct Manifest {
     /// The top members whose value is a string, with it.
     pub mains: Seq<(Text, Text)>,

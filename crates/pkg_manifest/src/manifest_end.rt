@@ -4,7 +4,7 @@ ghost use Rattle.pkg_manifest.specs.declared.manifest_end.ManifestEnd.TheVariant
 use std::alloc::{AllocError, AllocFailed};
 
 /// Why a text is no manifest.
-#[derive(Clone, Copy, Debug, PartialEq, Eq)]
+#[derive(Clone, Copy, PartialEq, Eq)]
 pub enum ManifestEnd {
     /// The text is too long, isn't JSON or isn't an object.
     BadManifest,

@@ -4,7 +4,7 @@ use Rattle.std.specs.List.{position}
 use Rattle.std.specs.Option.{is_some, option_map}
 use Rattle.std.specs.Prelude.{Result}
 use Rattle.std.proofs.lemmas.Bool.{false≢true}
-use Rattle.fault_place.specs.declared.number.FileId.{FileId}
+use Rattle.pack_util.specs.declared.number.FileId.{FileId}
 use Rattle.outside.specs.Tree.{Tree, bytes_at}
 use Rattle.outside.specs.Views.{ReaderView}
 use Rattle.outside.specs.declared.outside_end.OutsideEnd.{OutsideEnd}

@@ -2,7 +2,7 @@
 use Rattle.std.proofs.Common.{◌≡◌, ℕ, List, Some, None, Ok, Err, sym, ap, ◌∙◌, subst}
 use Rattle.std.specs.Prelude.{IfOk, Result}
 use Rattle.std.specs.Result.{result_ok}
-use Rattle.fault_place.specs.declared.number.FileId.{FileId}
+use Rattle.pack_util.specs.declared.number.FileId.{FileId}
 use Rattle.graph_types.specs.declared.config.Config.{Config}
 use Rattle.outside.specs.Tree.{Tree}
 use Rattle.outside.specs.Views.{ReaderView}

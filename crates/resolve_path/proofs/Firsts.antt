@@ -7,7 +7,7 @@ use Rattle.std.specs.Option.{option_or, option_and_then, option_map, is_some}
 use Rattle.std.specs.Prelude.{IfOk, Result}
 use Rattle.std.specs.Str.{bytes_eq}
 use Rattle.graph_types.specs.declared.config.Config.{Config}
-use Rattle.fault_place.specs.declared.number.FileId.{FileId}
+use Rattle.pack_util.specs.declared.number.FileId.{FileId}
 use Rattle.tree_listing.specs.Listing.{number_at}
 use Rattle.resolve_path.specs.Files.{file_paths}
 use Rattle.resolve_path.specs.Places.{Places, answer_among, before, file_or, first_number, is_file}

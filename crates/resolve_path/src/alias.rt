@@ -4,7 +4,7 @@ ghost use Rattle.std.specs.Option.{option_copied};
 ghost use Rattle.resolve_path.specs.Requests.{goes_on, is_aliased, is_whole, alias_name, rest_behind};
 ghost use Rattle.resolve_path.specs.inner.Parts.{replaced_by};
 
-use fault_place::{NoMemory, Text};
+use pack_util::{NoMemory, Text};
 use std::alloc::Global;
 
 fn is_whole(key: &str) -> bool

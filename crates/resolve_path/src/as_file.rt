@@ -5,8 +5,8 @@ ghost use Rattle.resolve_path.specs.Files.{file_paths, main_file_paths};
 ghost use Rattle.resolve_path.specs.Places.{first_number};
 ghost use Rattle.tree_listing.specs.Listing.{number_at};
 
-use fault_place::{FileId, NoMemory, Text};
 use graph_types::Config;
+use pack_util::{FileId, NoMemory, Text};
 use tree_listing::Listing;
 
 /// Puts the path of an entry of a folder, and an ending, into the buffer.

@@ -10,8 +10,8 @@ ghost use Rattle.resolve_path.specs.inner.Parts.{path_named};
 
 use crate::Resolution;
 use crate::as_file::{as_file, main_file};
-use fault_place::{FileId, NoMemory, Text};
 use graph_types::Config;
+use pack_util::{FileId, NoMemory, Text};
 use path_text::{PathEnd, child, join};
 use pkg_manifest::Manifest;
 use std::alloc::{AllocError, Global};

@@ -2,7 +2,7 @@ ghost use Rattle.std.specs.Prelude.{◌≡◌, ◌<◌, ◌++◌, ◌∷◌, [],
 ghost use Rattle.resolve_path.specs.inner.Fetches.{is_at, nothing};
 
 use crate::kept::KeptManifest;
-use fault_place::{NoMemory, Text};
+use pack_util::{NoMemory, Text};
 use pkg_manifest::Manifest;
 use std::alloc::Global;
 use std::marker::Model;

@@ -9,8 +9,8 @@ ghost use Rattle.resolve_path.specs.inner.Fetches.{FetchesFrom, IsHeld, ReadsMan
 
 use crate::ManifestCache;
 use crate::as_file::put;
-use fault_place::{NoMemory, Text};
 use outside::{OutsideEnd, ReadGot, TreeReader, Why};
+use pack_util::{NoMemory, Text};
 use pkg_manifest::{Manifest, ManifestEnd, manifest};
 use std::alloc::{AllocError, Global};
 use tree_listing::Listing;

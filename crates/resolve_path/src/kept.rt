@@ -1,4 +1,4 @@
-use fault_place::Text;
+use pack_util::Text;
 use pkg_manifest::Manifest;
 
 /// A manifest's path, and which manifest its file is, or that it is none.

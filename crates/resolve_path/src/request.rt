@@ -4,7 +4,7 @@ ghost use Rattle.std.specs.List.{before_first, after_first, list_any};
 ghost use Rattle.path_text.specs.Path.{is_slash};
 ghost use Rattle.resolve_path.specs.Requests.{bare_of, is_relative, plain_of, scoped_of};
 
-use fault_place::{NoMemory, Text};
+use pack_util::{NoMemory, Text};
 use std::alloc::Global;
 
 /// A package's name, and what follows it and a slash in a request: nothing where the package itself is asked for.

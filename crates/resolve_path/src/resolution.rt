@@ -2,10 +2,10 @@ ghost use Rattle.std.specs.Prelude.{◌≡◌, option_map};
 ghost use Rattle.graph_types.specs.Modules.{file_id};
 ghost use Rattle.resolve_path.specs.Places.{file_or};
 
-use fault_place::{FileId, Text};
+use pack_util::{FileId, Text};
 
 /// What a request names.
-#[derive(Debug, PartialEq, Eq, Drop)]
+#[derive(PartialEq, Eq, Drop)]
 pub enum Resolution {
     File(FileId),
     /// No file.

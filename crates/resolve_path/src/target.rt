@@ -7,9 +7,9 @@ ghost use Rattle.resolve_path.specs.Places.{HasFileWithin, answer_among};
 
 use crate::as_folder::{joined, manifest_path};
 use crate::{RequestKind, Resolution};
-use fault_place::{NoMemory, Text};
 use graph_types::Config;
 use json_order::JsonTree;
+use pack_util::{NoMemory, Text};
 use pkg_exports::{ExportsEnd, export_target};
 use std::alloc::{AllocError, Global};
 use tree_listing::Listing;

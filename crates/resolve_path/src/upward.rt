@@ -6,7 +6,7 @@ ghost use Rattle.resolve_path.specs.Packages.{folders_from, holds_packages};
 ghost use Rattle.resolve_path.specs.inner.Parts.{is_listed, package_among};
 
 use crate::as_file::put;
-use fault_place::{NoMemory, Text};
+use pack_util::{NoMemory, Text};
 use path_text::parent;
 use std::alloc::Global;
 use tree_listing::Listing;

@@ -3,9 +3,10 @@
 //! cache groups, where they aren't the two default ones, all, each with what it has other than a group that says nothing.
 #![tactic(auto)]
 
-use fault_place::{Spot, Text};
+use fault_place::Spot;
 use graph_types::{CacheGroup, Condition, Config, EntrySpec, Part, Select, Template};
 use pack_config::{ConfigEnd, ConfigKind, read_config};
+use pack_util::Text;
 use std::alloc::{AllocError, Global};
 use std::io;
 

@@ -4,8 +4,8 @@
 //! Where the expected answers come from: docs/PROMISES.md.
 #![tactic(auto)]
 
-use fault_place::{Seq, Text};
 use json_order::{JsonEnd, JsonNode, JsonTree, read};
+use pack_util::{Seq, Text};
 use pkg_exports::{ExportsEnd, export_target};
 use pkg_manifest::{Manifest, ManifestEnd, manifest};
 use std::alloc::{AllocError, Global};

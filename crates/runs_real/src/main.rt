@@ -4,8 +4,8 @@
 mod asked;
 
 use asked::{list, put, read, tell};
-use fault_place::Text;
 use outside_real::{DirReader, DirSink, StdLines};
+use pack_util::Text;
 use std::os::unix::fs::symlink;
 use std::{fs, io};
 

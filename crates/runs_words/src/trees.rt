@@ -1,6 +1,6 @@
 use asset_names::content_hash;
-use fault_place::{Bytes, FileId, MAX_TEXT};
 use outside::{MemReader, MemTree, ReadGot, TreeReader, Why};
+use pack_util::{Bytes, FileId, MAX_TEXT};
 use std::alloc::{AllocError, Global};
 use tree_listing::{Listing, list};
 use tree_sample::{SampleEnd, sample_tree};

@@ -7,7 +7,7 @@ use Rattle.std.proofs.lemmas.List.Folds.{list_any-append}
 use Rattle.std.proofs.lemmas.List.FromFn.{get_or-map-range_with_len}
 use Rattle.std.proofs.lemmas.List.Sums.{sum_by_more_le}
 use Rattle.bit_rows.specs.Table.{Table}
-use Rattle.fault_place.specs.declared.number.ChunkNo.{ChunkNo}
+use Rattle.pack_util.specs.declared.number.ChunkNo.{ChunkNo}
 use Rattle.chunk_graph.specs.declared.chunk.Chunk.{Chunk}
 use Rattle.chunk_graph.specs.Chunks.{State, chunk_at, count, group_at, has, has_module, holds, is_in, no_chunk}
 use Rattle.chunk_graph.specs.Moves.{are_equal, chunk_no, first_chunk, gone_if_empty, is_empty, joined, may_merge, merged, merged_chunk, merged_into, merged_list, needed, same_row, started, without_empty}

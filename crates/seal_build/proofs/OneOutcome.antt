@@ -11,7 +11,7 @@ use Rattle.chunk_groups.specs.ChunkGroups.{TellsGroups}
 use Rattle.chunk_groups.specs.Rows.{bit_in}
 use Rattle.chunk_groups.specs.declared.groups_end.GroupsEnd.{GroupsEnd}
 use Rattle.chunk_groups.specs.declared.groups_end.GroupsEnd.TheVariants as ends
-use Rattle.fault_place.specs.declared.number.GroupNo.{GroupNo}
+use Rattle.pack_util.specs.declared.number.GroupNo.{GroupNo}
 use Rattle.graph_types.specs.declared.config.Config.{Config}
 use Rattle.graph_types.specs.declared.groups.GroupInfo.{GroupInfo}
 use Rattle.graph_types.specs.Edges.{blocks_of}

@@ -12,7 +12,7 @@ use Rattle.chunk_graph.specs.Chunks.{State}
 use Rattle.chunk_graph.specs.Moves.{chunk_no, first_chunk, gone_if_empty, merged, merged_chunk, merged_list, needed, started, without_empty}
 use Rattle.chunk_groups.specs.ChunkGroups.{TellsGroups, group_at}
 use Rattle.chunk_groups.specs.Grouped.{info_at, no_group}
-use Rattle.fault_place.specs.declared.number.GroupNo.{GroupNo}
+use Rattle.pack_util.specs.declared.number.GroupNo.{GroupNo}
 use Rattle.graph_types.specs.declared.config.Config.{Config}
 use Rattle.graph_types.specs.declared.groups.GroupInfo.{GroupInfo}
 use Rattle.graph_types.specs.Edges.{blocks_of}

@@ -9,7 +9,7 @@ use Rattle.std.proofs.lemmas.List.Elements.{All-get_or}
 use Rattle.std.proofs.lemmas.List.FromFn.{get_or-map-range_with_len, length-map-range_with_len}
 use Rattle.std.proofs.lemmas.Simd.{length-zip2}
 use Rattle.bit_rows.specs.Table.{Table, IsEven}
-use Rattle.fault_place.specs.declared.number.ChunkNo.{ChunkNo}
+use Rattle.pack_util.specs.declared.number.ChunkNo.{ChunkNo}
 use Rattle.chunk_graph.specs.declared.chunk.Chunk.{Chunk}
 use Rattle.chunk_graph.specs.declared.split.Split.{Split}
 use Rattle.chunk_graph.specs.Chunks.{State, IsShaped, no_chunk, chunk_at, group_at, has, has_module, is_in}

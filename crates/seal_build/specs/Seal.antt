@@ -12,7 +12,7 @@ use Rattle.chunk_groups.specs.declared.groups_end.GroupsEnd.{GroupsEnd}
 use Rattle.chunk_groups.specs.declared.groups_end.GroupsEnd.TheVariants as groups_ends
 use Rattle.fault_place.specs.declared.fault.Fault.{Fault}
 use Rattle.fault_place.specs.declared.limit.Limit.TheVariants as limits
-use Rattle.fault_place.specs.declared.number.GroupNo.{GroupNo}
+use Rattle.pack_util.specs.declared.number.GroupNo.{GroupNo}
 use Rattle.fault_place.specs.Fault.{in_order}
 use Rattle.fault_place.specs.Limit.{number_of}
 use Rattle.graph_types.specs.declared.config.Config.{Config}

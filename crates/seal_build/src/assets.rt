@@ -10,8 +10,8 @@ use crate::SealEnd;
 use crate::naming::NamedAssets;
 use chunk_code::{chunk_text, entry_text};
 use chunk_graph::ChunkGraph;
-use fault_place::{ChunkNo, GroupNo, Text};
 use module_code::SealView;
+use pack_util::{ChunkNo, GroupNo, Text};
 use std::alloc::Global;
 
 fn is_later(chunks: &ChunkGraph, c: ChunkNo) -> bool

@@ -3,7 +3,7 @@ ghost use Rattle.std.specs.Prelude.{◌≡◌};
 ghost use Rattle.seal_build.specs.Seal.{count_there};
 
 use chunk_graph::ChunkGraph;
-use fault_place::ChunkNo;
+use pack_util::ChunkNo;
 
 /// How many chunks aren't gone.
 pub(crate) fn count_there(chunks: &ChunkGraph) -> u32

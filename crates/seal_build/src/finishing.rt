@@ -9,8 +9,9 @@ use crate::naming::{NamedAssets, add_bytes};
 use crate::{SealEnd, Sealed};
 use asset_names::clashes;
 use chunk_graph::Split;
-use fault_place::{Bytes, Seq, sort_faults};
+use fault_place::sort_faults;
 use module_code::SealView;
+use pack_util::{Bytes, Seq};
 use stats_text::stats;
 use std::alloc::Global;
 

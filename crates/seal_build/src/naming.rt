@@ -9,10 +9,11 @@ ghost use Rattle.seal_build.specs.declared.seal_end.SealEnd.TheVariants as ends;
 
 use crate::SealEnd;
 use asset_names::name_of;
-use fault_place::{Bytes, ChunkNo, Limit, NoMemory, Text};
+use fault_place::Limit;
 use graph_types::Template;
 use module_code::{SealView, chunk_id};
 use outside::Asset;
+use pack_util::{Bytes, ChunkNo, NoMemory, Text};
 use std::alloc::Global;
 
 /// A number of bytes with those of one more text, where they are within the limit.

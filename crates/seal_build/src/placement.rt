@@ -6,8 +6,8 @@ ghost use Rattle.seal_build.specs.Final.{ArePlaced};
 use avail_sets::{available, place};
 use bit_rows::BitTable;
 use chunk_groups::reach;
-use fault_place::NoMemory;
 use graph_types::{Groups, ModuleGraph};
+use pack_util::NoMemory;
 use std::alloc::Global;
 
 /// A row for each group with the modules that are placed in it.

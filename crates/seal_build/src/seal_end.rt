@@ -1,10 +1,11 @@
 use chunk_groups::GroupsEnd;
-use fault_place::{Fault, Limit, Seq};
+use fault_place::{Fault, Limit};
+use pack_util::Seq;
 use split_chunks::SplitEnd;
 use std::alloc::{AllocError, AllocFailed};
 
 /// Why a graph isn't sealed.
-#[derive(Debug, Drop)]
+#[derive(Drop)]
 pub enum SealEnd {
     /// Names that are taken or that clash, in order; there is at least one.
     Faults(Seq<Fault>),

@@ -1,8 +1,8 @@
-use fault_place::{Bytes, Seq};
 use outside::Asset;
+use pack_util::{Bytes, Seq};
 
 /// What a build makes.
-#[derive(Debug, Drop)]
+#[derive(Drop)]
 pub struct Sealed {
     /// A file for each chunk: first for those that are no entry's, then for those of entries.
     pub assets: Seq<Asset>,

@@ -4,8 +4,8 @@ ghost use Rattle.seal_build.specs.Final.{before_splits, group_names};
 
 use bit_rows::BitTable;
 use chunk_graph::ChunkGraph;
-use fault_place::{GroupNo, NoMemory, Text};
 use graph_types::{Config, Groups};
+use pack_util::{GroupNo, NoMemory, Text};
 use std::alloc::Global;
 
 fn copy_name(name: &Option<Text>) -> Result<Option<Text>, NoMemory>

@@ -3,8 +3,8 @@ use Rattle.std.proofs.Common.{◌≡◌, ℕ, ◌<◌, ◌==◌, ◌||◌, Bool,
 use Rattle.std.specs.Cmp.Lexicographic.{pointwise}
 use Rattle.std.proofs.Math.Bool.{beq}
 use Rattle.std.proofs.lemmas.Bool.{and_parts, eqb-true, ltb-true, false≢true}
-use Rattle.fault_place.specs.declared.number.ChunkNo.{ChunkNo}
-use Rattle.fault_place.specs.declared.number.ModuleNo.{ModuleNo}
+use Rattle.pack_util.specs.declared.number.ChunkNo.{ChunkNo}
+use Rattle.pack_util.specs.declared.number.ModuleNo.{ModuleNo}
 use Rattle.graph_types.specs.Modules.{module_no}
 use Rattle.chunk_graph.specs.declared.split.Split.{Split}
 use Rattle.chunk_graph.specs.Chunks.{State}

@@ -3,7 +3,7 @@ use Rattle.std.proofs.Common.{◌≡◌, ℕ, ◌+◌, ◌<◌, List, [], ◌++�
 use Rattle.std.proofs.Math.ListN.{set}
 use Rattle.std.proofs.lemmas.List.{get_or_default, length-map, length-append, length-take, length-drop}
 use Rattle.std.proofs.lemmas.List.Edits.{map_over_more}
-use Rattle.fault_place.specs.declared.number.ChunkNo.{ChunkNo}
+use Rattle.pack_util.specs.declared.number.ChunkNo.{ChunkNo}
 use Rattle.chunk_graph.specs.Chunks.{State, group_at}
 
 pub joined_more : (f : List ChunkNo → List ChunkNo) (first s t : State) (g : ℕ) → g < length first.groups

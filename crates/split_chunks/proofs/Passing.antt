@@ -6,8 +6,8 @@ use Rattle.std.proofs.Math.Bool.{beq}
 use Rattle.std.proofs.lemmas.Bool.{and_parts, and_from, or_cases, cases_Bool, eq-eqb, lt-ltb, le-leb, cond-true, cond-false, false≢true}
 use Rattle.std.proofs.lemmas.List.{length-set, length-append}
 use Rattle.std.proofs.lemmas.List.FromFn.{fill_by_all}
-use Rattle.fault_place.specs.declared.number.ChunkNo.{ChunkNo}
-use Rattle.fault_place.specs.declared.number.ModuleNo.{ModuleNo}
+use Rattle.pack_util.specs.declared.number.ChunkNo.{ChunkNo}
+use Rattle.pack_util.specs.declared.number.ModuleNo.{ModuleNo}
 use Rattle.graph_types.specs.Modules.{module_no}
 use Rattle.chunk_graph.specs.declared.split.Split.{Split}
 use Rattle.chunk_graph.specs.Chunks.{State, chunk_at, is_in, is_open, count, has}

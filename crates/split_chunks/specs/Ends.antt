@@ -1,7 +1,7 @@
 -- Why splits end early (this project).
 use Rattle.std.specs.Prelude.{ℕ, Bool, List, Option, None, Some, if◌then◌else◌}
 use Rattle.std.specs.List.{list_any}
-use Rattle.fault_place.specs.declared.number.ChunkNo.{ChunkNo}
+use Rattle.pack_util.specs.declared.number.ChunkNo.{ChunkNo}
 use Rattle.chunk_graph.specs.Chunks.{State, is_in}
 use Rattle.chunk_graph.specs.Moves.{joined, with_new, with_moved, with_closed}
 use Rattle.split_plan.specs.Step.{with_joined, with_name_spent}

@@ -2,7 +2,7 @@ use crate::SplitBreak;
 use std::alloc::{AllocError, AllocFailed};
 
 /// Why a list of splits isn't accepted.
-#[derive(Clone, Copy, Debug, PartialEq, Eq)]
+#[derive(Clone, Copy, PartialEq, Eq)]
 pub enum CheckEnd {
     Break(SplitBreak),
     NoMemory,

@@ -11,8 +11,8 @@ use crate::rules::{keeps_group, keeps_made, keeps_requests, keeps_selection};
 use crate::taking::take;
 use crate::{CheckEnd, SplitBreak, SplitRule};
 use chunk_graph::{ChunkGraph, Split};
-use fault_place::NoMemory;
 use graph_types::{Config, ModuleGraph};
+use pack_util::NoMemory;
 use split_plan::SplitPlan;
 use std::alloc::{AllocError, Global};
 

@@ -10,7 +10,7 @@ use crate::SplitRule;
 use crate::lists::{chunk_numbers, chunk_row, module_numbers, same_chunks, same_modules};
 use bit_rows::BitRow;
 use chunk_graph::{ChunkGraph, Split};
-use fault_place::{ChunkNo, ModuleNo, NoMemory};
+use pack_util::{ChunkNo, ModuleNo, NoMemory};
 use split_plan::{Candidate, SplitPlan, claim, is_large};
 use std::alloc::Global;
 

@@ -8,7 +8,7 @@ ghost use Rattle.split_chunks.specs.Ends.{joined_list};
 use crate::lists::is_there;
 use bit_rows::BitRow;
 use chunk_graph::ChunkGraph;
-use fault_place::{ChunkNo, GroupNo, NoMemory};
+use pack_util::{ChunkNo, GroupNo, NoMemory};
 
 fn has_some(list: &[ChunkNo], row: &BitRow) -> bool
     ensures { result ≡ list_any (λ c. is_in row.now c.0) list.now }

@@ -8,7 +8,7 @@ ghost use Rattle.split_plan.specs.Order.{places};
 ghost use Rattle.split_chunks.specs.Rules.{listed_row, same_chunks, same_modules};
 
 use bit_rows::BitRow;
-use fault_place::{ChunkNo, ModuleNo, NoMemory, Seq};
+use pack_util::{ChunkNo, ModuleNo, NoMemory, Seq};
 use std::alloc::Global;
 
 pub fn chunk_numbers(alloc: Global, row: &BitRow) -> Result<Seq<ChunkNo>, NoMemory>

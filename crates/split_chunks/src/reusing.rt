@@ -4,7 +4,7 @@ ghost use Rattle.chunk_graph.specs.Chunks.{chunk_at, is_in};
 ghost use Rattle.split_plan.specs.Step.{is_reusable, reused_by};
 
 use chunk_graph::ChunkGraph;
-use fault_place::ChunkNo;
+use pack_util::ChunkNo;
 use split_plan::{Candidate, Rule};
 
 fn is_reusable(state: &ChunkGraph, x: &Candidate, place: u32) -> bool

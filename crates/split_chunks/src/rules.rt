@@ -11,7 +11,7 @@ use crate::lists::is_there;
 use crate::reusing::reused_of;
 use bit_rows::BitRow;
 use chunk_graph::{ChunkGraph, MOST_CHUNKS, Split};
-use fault_place::{ChunkNo, NoMemory};
+use pack_util::{ChunkNo, NoMemory};
 use split_plan::{Candidate, Rule, SplitPlan, allowed_chunks};
 use std::alloc::Global;
 

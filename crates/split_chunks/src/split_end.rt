@@ -2,7 +2,7 @@ use chunk_graph::ChunkEnd;
 use std::alloc::{AllocError, AllocFailed};
 
 /// Why splits end early.
-#[derive(Clone, Copy, Debug, PartialEq, Eq)]
+#[derive(Clone, Copy, PartialEq, Eq)]
 pub enum SplitEnd {
     /// The splits need more numbers of chunks than there are.
     Limit,

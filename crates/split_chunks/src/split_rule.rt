@@ -1,5 +1,5 @@
 /// A rule that a split keeps. They are tested in this order.
-#[derive(Clone, Copy, Debug, PartialEq, Eq)]
+#[derive(Clone, Copy, PartialEq, Eq)]
 pub enum SplitRule {
     /// The cache group is there, isn't spent, and has candidates of the form.
     Group,
@@ -18,7 +18,7 @@ pub enum SplitRule {
 }
 
 /// The first split of a list that breaks a rule, and the first rule that it breaks.
-#[derive(Clone, Copy, Debug, PartialEq, Eq)]
+#[derive(Clone, Copy, PartialEq, Eq)]
 pub struct SplitBreak {
     pub index: u32,
     pub rule: SplitRule,

@@ -11,7 +11,7 @@ use crate::joining::join_all;
 use crate::lists::{chunk_numbers, grown, module_numbers};
 use crate::reusing::reused_of;
 use chunk_graph::{ChunkGraph, Split};
-use fault_place::{ChunkNo, Text};
+use pack_util::{ChunkNo, Text};
 use split_plan::{Candidate, Rule, SplitPlan};
 use std::alloc::{AllocError, Global};
 

@@ -8,7 +8,7 @@ use Rattle.std.proofs.lemmas.List.Folds.{list_any-append}
 use Rattle.std.proofs.lemmas.List.FromFn.{get_or-map-range_with_len, length-map-range_with_len, get_or-range_with_len, length-range_with_len}
 use Rattle.std.proofs.lemmas.List.Quantifiers.{position-Some}
 use Rattle.std.proofs.lemmas.Simd.{get_or-zip2, length-zip2}
-use Rattle.fault_place.specs.declared.number.ChunkNo.{ChunkNo}
+use Rattle.pack_util.specs.declared.number.ChunkNo.{ChunkNo}
 use Rattle.chunk_graph.specs.declared.chunk.Chunk.{Chunk}
 use Rattle.chunk_graph.specs.Chunks.{State, IsShaped, no_chunk, chunk_at, is_in, holds, has, group_at, has_module}
 use Rattle.chunk_graph.specs.Moves.{chunk_no, joined, moved_one, with_moved, with_closed, with_new, new_chunk}

@@ -2,7 +2,7 @@
 use Rattle.std.specs.Prelude.{◌≡◌, ℕ, ◌⊎◌, Bool, true, false, not, ◌&&◌, List, [], ◌∷◌, length, map, Option, None, Some, is_some, if◌then◌else◌}
 use Rattle.std.specs.List.{list_any, range_with_len, position, sum_by}
 use Rattle.std.specs.declared.cmp.Ordering.TheVariants.{Greater}
-use Rattle.fault_place.specs.declared.number.ChunkNo.{ChunkNo}
+use Rattle.pack_util.specs.declared.number.ChunkNo.{ChunkNo}
 use Rattle.graph_types.specs.Modules.{module_no}
 use Rattle.chunk_graph.specs.declared.split.Split.{Split}
 use Rattle.chunk_graph.specs.Chunks.{State, chunk_at, is_in, count, is_open}

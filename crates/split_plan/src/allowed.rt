@@ -1,7 +1,7 @@
 //! The chunks from which a cache group may take modules.
 ghost use Rattle.std.specs.Prelude.{◌≡◌, ℕ, ◌<◌, ◌≤◌, ◌||◌, ◌&&◌, not, true, false, length, slice_index_or, take, drop, IfOk};
 ghost use Rattle.std.specs.List.{list_any};
-ghost use Rattle.fault_place.specs.declared.number.ChunkNo.{ChunkNo};
+ghost use Rattle.pack_util.specs.declared.number.ChunkNo.{ChunkNo};
 ghost use Rattle.chunk_graph.specs.Chunks.{is_in, is_open, chunk_at, has};
 ghost use Rattle.split_plan.specs.Shares.{allowed_row, is_reached, is_taken, stands_in_entry};
 ghost use Rattle.split_plan.specs.inner.Rows.{IsChunkRow, reached_in};
@@ -9,8 +9,8 @@ ghost use Rattle.split_plan.specs.inner.Rows.{IsChunkRow, reached_in};
 use crate::Rule;
 use bit_rows::BitRow;
 use chunk_graph::ChunkGraph;
-use fault_place::{ChunkNo, GroupNo, NoMemory};
 use graph_types::Select;
+use pack_util::{ChunkNo, GroupNo, NoMemory};
 use std::alloc::Global;
 
 fn is_reached(most: Option<u32>, count: usize) -> bool

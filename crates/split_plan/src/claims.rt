@@ -15,7 +15,7 @@ use crate::unnamed::goes_with;
 use crate::{Candidate, Rule, SplitPlan};
 use bit_rows::BitRow;
 use chunk_graph::ChunkGraph;
-use fault_place::NoMemory;
+use pack_util::NoMemory;
 use std::alloc::Global;
 
 fn is_share_at(rule: &Rule, share: &BitRow, set: &BitRow, module: u32) -> bool

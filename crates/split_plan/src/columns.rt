@@ -5,7 +5,7 @@ ghost use Rattle.split_plan.specs.inner.Rows.{columns_of};
 
 use bit_rows::BitRow;
 use chunk_graph::ChunkGraph;
-use fault_place::{ChunkNo, NoMemory};
+use pack_util::{ChunkNo, NoMemory};
 use std::alloc::Global;
 
 /// Rows of one length with no true place.

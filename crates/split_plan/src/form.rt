@@ -11,7 +11,7 @@ use crate::Rule;
 use crate::allowed::allowed_chunks;
 use bit_rows::BitRow;
 use chunk_graph::ChunkGraph;
-use fault_place::NoMemory;
+use pack_util::NoMemory;
 use std::alloc::Global;
 
 /// A cache group, and whether its candidates stand for their size alone.

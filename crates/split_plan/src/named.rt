@@ -9,7 +9,7 @@ use crate::form::{Form, is_large, size_of};
 use crate::{Candidate, Rule, SplitPlan};
 use bit_rows::BitRow;
 use chunk_graph::ChunkGraph;
-use fault_place::NoMemory;
+use pack_util::NoMemory;
 use std::alloc::Global;
 
 /// The modules that enough chunks share, and the chunks that share one of them.

@@ -4,8 +4,8 @@ ghost use Rattle.split_plan.specs.Plan.{Plan, IsPlan, plan_of, rule_at, rule_of,
 
 use crate::rule::{Rule, rule_of};
 use bit_rows::BitRow;
-use fault_place::{ModuleNo, NoMemory};
 use graph_types::{CacheGroup, Config, ModuleGraph};
+use pack_util::{ModuleNo, NoMemory};
 use std::alloc::Global;
 use std::marker::Model;
 

@@ -3,8 +3,8 @@ ghost use Rattle.graph_types.specs.Condition.{holds};
 ghost use Rattle.split_plan.specs.Plan.{rule_of};
 
 use bit_rows::BitRow;
-use fault_place::{ModuleNo, NoMemory, Text};
 use graph_types::{CacheGroup, Condition, ModuleGraph, Select};
+use pack_util::{ModuleNo, NoMemory, Text};
 use std::alloc::Global;
 
 /// The settings of a cache group that splits depend on. Sizes are in bytes.

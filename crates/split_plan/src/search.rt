@@ -13,8 +13,8 @@ use crate::unnamed::{add_some, unnamed_candidates};
 use crate::{Candidate, SplitPlan};
 use bit_rows::BitRow;
 use chunk_graph::ChunkGraph;
-use fault_place::NoMemory;
 use graph_types::{Config, ModuleGraph};
+use pack_util::NoMemory;
 use std::alloc::Global;
 
 /// The candidates of one cache group in one form. The rows are written over.

@@ -13,7 +13,7 @@ use crate::form::{Form, copy_row, is_large, size_of};
 use crate::{Candidate, Rule, SplitPlan};
 use bit_rows::BitRow;
 use chunk_graph::ChunkGraph;
-use fault_place::{ChunkNo, NoMemory};
+use pack_util::{ChunkNo, NoMemory};
 use std::alloc::Global;
 
 /// Whether no earlier module of the row that meets the test has the same chunks.

@@ -3,9 +3,9 @@ use Rattle.std.specs.Prelude.{ℕ, ◌==◌, Bool, List, map, filter_map, length
 use Rattle.std.specs.List.{enumerate_from, filter, range_with_len, sum_by}
 use Rattle.chunk_graph.specs.Chunks.{State, is_in}
 use Rattle.chunk_graph.specs.Moves.{id_of}
-use Rattle.fault_place.specs.declared.number.ChunkNo.{ChunkNo}
-use Rattle.fault_place.specs.declared.number.GroupNo.{GroupNo}
-use Rattle.fault_place.specs.declared.number.ModuleNo.{ModuleNo}
+use Rattle.pack_util.specs.declared.number.ChunkNo.{ChunkNo}
+use Rattle.pack_util.specs.declared.number.GroupNo.{GroupNo}
+use Rattle.pack_util.specs.declared.number.ModuleNo.{ModuleNo}
 use Rattle.graph_types.specs.declared.block.Block.{Block}
 use Rattle.graph_types.specs.declared.record.ModRecord.{ModRecord}
 use Rattle.graph_types.specs.Edges.{blocks_of}

@@ -5,8 +5,8 @@ use Rattle.std.specs.List.{enumerate_from, range_with_len}
 use Rattle.chunk_graph.specs.Chunks.{State, chunk_at, group_at}
 use Rattle.chunk_graph.specs.Moves.{id_of}
 use Rattle.chunk_graph.specs.declared.split.Split.{Split}
-use Rattle.fault_place.specs.declared.number.GroupNo.{GroupNo}
-use Rattle.fault_place.specs.declared.number.ModuleNo.{ModuleNo}
+use Rattle.pack_util.specs.declared.number.GroupNo.{GroupNo}
+use Rattle.pack_util.specs.declared.number.ModuleNo.{ModuleNo}
 use Rattle.graph_types.specs.declared.config.Config.{Config}
 use Rattle.graph_types.specs.declared.groups.GroupInfo.{GroupInfo}
 use Rattle.graph_types.specs.declared.note.Note.{Note}

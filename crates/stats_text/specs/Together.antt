@@ -3,7 +3,7 @@ use Rattle.std.specs.Prelude.{◌≡◌, ◌<◌, ◌≤◌, ◌^◌, List, leng
 use Rattle.std.specs.List.{AllByRecursion}
 use Rattle.chunk_graph.specs.Chunks.{State}
 use Rattle.chunk_graph.specs.declared.split.Split.{Split}
-use Rattle.fault_place.specs.declared.limit.TheConstants.{MAX_TEXT}
+use Rattle.pack_util.specs.declared.number.TheConstants.{MAX_TEXT}
 use Rattle.graph_types.specs.declared.config.Config.{Config}
 use Rattle.graph_types.specs.Edges.{blocks_of}
 use Rattle.graph_types.specs.GroupList.{GroupList}

@@ -3,27 +3,18 @@ ghost use Rattle.std.specs.List.{AllByRecursion, range_with_len};
 ghost use Rattle.chunk_graph.specs.Chunks.{chunk_at};
 ghost use Rattle.serde_json.specs.View.{view};
 ghost use Rattle.stats_text.specs.Lists.{held_modules, size_of_modules};
-ghost use Rattle.stats_text.specs.Stats.{chunks_stats, modules_by_number, name_stats, chunk_stats, chunk_told};
+ghost use Rattle.stats_text.specs.Stats.{chunks_stats, modules_by_number, chunk_stats, chunk_told};
 ghost use Rattle.stats_text.specs.inner.Ids.{all_ids};
 
 use crate::ids::id_at;
 use crate::members::{held_modules, total_size};
+use crate::names::name_value;
 use crate::numbers::numbers_value;
 use chunk_graph::ChunkGraph;
-use fault_place::{ChunkNo, MAX_TEXT, NoMemory};
 use graph_types::ModuleGraph;
-use serde_json::{Value, json};
+use pack_util::{ChunkNo, MAX_TEXT, NoMemory};
+use serde_json::{Map, Value, put};
 use std::alloc::Global;
-
-fn name_value(alloc: Global, chunks: &ChunkGraph, c: ChunkNo) -> Result<Value, NoMemory>
-    requires { c.0 < length chunks.now.chunks }
-    ensures { IfOk result (λ value. view value ≡ name_stats (chunk_at chunks.now c.0).name) }
-{
-    match chunks.name(c) {
-        Some(name) => json!(in alloc; name),
-        None => Ok(Value::Null),
-    }
-}
 
 fn modules_and_size(
     alloc: Global,
@@ -55,9 +46,21 @@ fn chunk_value(
     requires there { c.0 < length chunks.now.chunks }
     ensures { IfOk result (λ value. view value ≡ chunk_stats graph.now.records chunks.now c.0 id) }
 {
+    let mut members = Map::new(alloc);
+    put(
+        &mut members,
+        alloc,
+        "entry",
+        Value::Bool(chunks.is_entry(c)),
+    )?;
+    put(&mut members, alloc, "id", Value::from(id))?;
     let (modules, size) = modules_and_size(alloc, graph, chunks, c)?;
-    let name = name_value(alloc, chunks, c)?;
-    json!(in alloc; {"entry": chunks.is_entry(c), "id": id, "modules": modules, "name": name, "no": c.0, "size": size})
+    put(&mut members, alloc, "modules", modules)?;
+    let name = name_value(alloc, chunks.name(c))?;
+    put(&mut members, alloc, "name", name)?;
+    put(&mut members, alloc, "no", Value::from(c.0))?;
+    put(&mut members, alloc, "size", Value::from(size))?;
+    Ok(Value::Object(members))
 }
 
 fn add_chunk(

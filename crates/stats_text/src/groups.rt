@@ -1,23 +1,25 @@
 ghost use Rattle.std.specs.Prelude.{◌≡◌, ◌<◌, map, length, slice_index_or, IfOk};
 ghost use Rattle.std.specs.List.{enumerate_from};
+ghost use Rattle.std.specs.Option.{option_copied};
 ghost use Rattle.serde_json.specs.View.{view};
-ghost use Rattle.stats_text.specs.Stats.{groups_stats, name_stats, group_stats};
+ghost use Rattle.stats_text.specs.Stats.{groups_stats, group_stats};
 ghost use Rattle.stats_text.specs.inner.Ids.{all_ids};
 
 use crate::ids::group_ids_value;
+use crate::names::name_value;
 use crate::numbers::numbers_value;
 use chunk_graph::ChunkGraph;
-use fault_place::{GroupNo, NoMemory, Text};
 use graph_types::{GroupInfo, Groups};
-use serde_json::{Value, json};
+use pack_util::{GroupNo, NoMemory, Text};
+use serde_json::{Map, Value, put};
 use std::alloc::Global;
 
-fn name_value(alloc: Global, name: &Option<Text>) -> Result<Value, NoMemory>
-    ensures { IfOk result (λ value. view value ≡ name_stats name.now) }
+fn text_of(name: &Option<Text>) -> Option<&str>
+    ensures { option_copied result ≡ name.now }
 {
     match name {
-        Some(name) => json!(in alloc; name.get()),
-        None => Ok(Value::Null),
+        Some(name) => Some(name.get()),
+        None => None,
     }
 }
 
@@ -32,10 +34,20 @@ fn group_value(
     requires there { g.0 < length chunks.now.groups }
     ensures { IfOk result (λ value. view value ≡ group_stats chunks.now (g.0, info.now)) }
 {
+    let mut members = Map::new(alloc);
     let listed = group_ids_value(alloc, chunks, ids, g)?;
-    let name = name_value(alloc, &info.name)?;
+    put(&mut members, alloc, "chunks", listed)?;
+    put(
+        &mut members,
+        alloc,
+        "entry",
+        Value::Bool(info.entry.is_some()),
+    )?;
+    let name = name_value(alloc, text_of(&info.name))?;
+    put(&mut members, alloc, "name", name)?;
     let roots = numbers_value(alloc, info.roots.as_slice())?;
-    json!(in alloc; {"chunks": listed, "entry": info.entry.is_some(), "name": name, "roots": roots})
+    put(&mut members, alloc, "roots", roots)?;
+    Ok(Value::Object(members))
 }
 
 /// All groups, by number.

@@ -9,8 +9,7 @@ ghost use Rattle.stats_text.specs.inner.Ids.{all_ids};
 
 use crate::numbers::numbers_value;
 use chunk_graph::ChunkGraph;
-use fault_place::{ChunkNo, GroupNo, NoMemory};
-use pack_util::add_some;
+use pack_util::{ChunkNo, GroupNo, NoMemory, add_some};
 use serde_json::Value;
 use std::alloc::Global;
 

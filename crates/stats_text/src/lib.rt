@@ -11,6 +11,7 @@ mod ids;
 mod loaded;
 mod members;
 mod modules;
+mod names;
 mod notes;
 mod numbers;
 mod splits;

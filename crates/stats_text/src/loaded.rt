@@ -4,8 +4,8 @@ ghost use Rattle.std.specs.List.{range_with_len};
 ghost use Rattle.graph_types.specs.Edges.{blocks_of};
 ghost use Rattle.stats_text.specs.inner.Loaded.{loaded_before, all_loaded};
 
-use fault_place::{GroupNo, NoMemory, Seq};
 use graph_types::{Groups, ModuleGraph};
+use pack_util::{GroupNo, NoMemory, Seq};
 use std::alloc::Global;
 
 fn empty_lists(alloc: Global, count: u32) -> Result<Vec<Seq<GroupNo>>, NoMemory>

@@ -5,8 +5,8 @@ ghost use Rattle.graph_types.specs.Modules.{AreNumbersOf};
 ghost use Rattle.stats_text.specs.Lists.{held_modules, size_of_modules};
 
 use bit_rows::BitRow;
-use fault_place::{MAX_TEXT, ModuleNo, NoMemory};
 use graph_types::ModuleGraph;
+use pack_util::{MAX_TEXT, ModuleNo, NoMemory};
 use std::alloc::Global;
 
 /// The modules of a row.

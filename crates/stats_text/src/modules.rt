@@ -5,10 +5,11 @@ ghost use Rattle.serde_json.specs.View.{view};
 ghost use Rattle.stats_text.specs.Stats.{list_stats, id_stats, module_stats, module_told};
 
 use crate::loaded::all_loaded;
+use crate::names::text_value;
 use crate::numbers::numbers_value;
-use fault_place::{GroupNo, ModuleNo, NoMemory};
 use graph_types::{Groups, ModRecord, ModuleGraph};
-use serde_json::{Value, json};
+use pack_util::{GroupNo, ModuleNo, NoMemory};
+use serde_json::{Map, Value, put};
 use std::alloc::Global;
 
 fn id_value(alloc: Global, named: bool, m: ModuleNo, rec: &ModRecord) -> Result<Value, NoMemory>
@@ -34,10 +35,17 @@ fn module_value(
     requires own { rec.now ≡ slice_index_or graph.now.records m.0 rec.now }
     ensures { IfOk result (λ value. view value ≡ module_stats named graph.now.records loaded.now (m.0, rec.now)) }
 {
+    let mut members = Map::new(alloc);
     let blocks = numbers_value(alloc, loaded)?;
+    put(&mut members, alloc, "blocks", blocks)?;
     let id = id_value(alloc, named, m, rec)?;
+    put(&mut members, alloc, "id", id)?;
+    let path = text_value(alloc, rec.path.get())?;
+    put(&mut members, alloc, "path", path)?;
+    put(&mut members, alloc, "size", Value::from(rec.size))?;
     let sync = numbers_value(alloc, graph.sync_targets(m))?;
-    json!(in alloc; {"blocks": blocks, "id": id, "path": rec.path.get(), "size": rec.size, "sync": sync})
+    put(&mut members, alloc, "sync", sync)?;
+    Ok(Value::Object(members))
 }
 
 /// All modules, by number.

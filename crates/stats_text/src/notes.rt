@@ -2,9 +2,10 @@ ghost use Rattle.std.specs.Prelude.{◌≡◌, ◌++◌, map, flat_map, IfOk, On
 ghost use Rattle.serde_json.specs.View.{view};
 ghost use Rattle.stats_text.specs.Stats.{list_stats, kind_name, note_stats, notes_in};
 
-use fault_place::{ModuleNo, NoMemory};
+use crate::names::text_value;
 use graph_types::{ModRecord, ModuleGraph, Note, NoteKind};
-use serde_json::{Value, json};
+use pack_util::{ModuleNo, NoMemory};
+use serde_json::{Map, Value, put};
 use std::alloc::Global;
 
 fn kind_name(kind: NoteKind) -> &'static str
@@ -21,8 +22,15 @@ fn kind_name(kind: NoteKind) -> &'static str
 fn note_value(alloc: Global, path: &str, note: &Note) -> Result<Value, NoMemory>
     ensures { IfOk result (λ value. view value ≡ note_stats path.now note.now) }
 {
-    let kind = kind_name(note.kind);
-    json!(in alloc; {"at": note.at, "detail": note.detail.get(), "kind": kind, "path": path})
+    let mut members = Map::new(alloc);
+    put(&mut members, alloc, "at", Value::from(note.at))?;
+    let detail = text_value(alloc, note.detail.get())?;
+    put(&mut members, alloc, "detail", detail)?;
+    let kind = text_value(alloc, kind_name(note.kind))?;
+    put(&mut members, alloc, "kind", kind)?;
+    let path = text_value(alloc, path)?;
+    put(&mut members, alloc, "path", path)?;
+    Ok(Value::Object(members))
 }
 
 fn add_notes(notes: &mut Vec<Value>, alloc: Global, rec: &ModRecord) -> Result<(), NoMemory>

@@ -3,7 +3,7 @@ ghost use Rattle.std.specs.Prelude.{◌≡◌, ℕ, map, IfOk};
 ghost use Rattle.serde_json.specs.View.{view};
 ghost use Rattle.stats_text.specs.Stats.{number_stats, list_stats};
 
-use fault_place::{ChunkNo, GroupNo, ModuleNo, NoMemory};
+use pack_util::{ChunkNo, GroupNo, ModuleNo, NoMemory};
 use serde_json::Value;
 use std::alloc::Global;
 

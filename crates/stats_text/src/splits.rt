@@ -3,11 +3,12 @@ ghost use Rattle.std.specs.List.{AllByRecursion};
 ghost use Rattle.serde_json.specs.View.{view};
 ghost use Rattle.stats_text.specs.Stats.{number_stats, list_stats, modules_by_number, key_of, split_stats};
 
+use crate::names::text_value;
 use crate::numbers::numbers_value;
 use chunk_graph::Split;
-use fault_place::NoMemory;
 use graph_types::Config;
-use serde_json::{Value, json};
+use pack_util::NoMemory;
+use serde_json::{Map, Value, put};
 use std::alloc::Global;
 
 fn key_of(config: &Config, cache_group: u32) -> &str
@@ -35,10 +36,17 @@ fn split_value(alloc: Global, config: &Config, split: &Split) -> Result<Value, N
     requires { split.now.cache_group < length config.now.cache_groups }
     ensures { IfOk result (λ value. view value ≡ split_stats config.now split.now) }
 {
+    let mut members = Map::new(alloc);
     let chunks = chunks_value(alloc, split)?;
+    put(&mut members, alloc, "chunks", chunks)?;
+    put(&mut members, alloc, "forced", Value::Bool(split.forced))?;
+    let group = text_value(alloc, key_of(config, split.cache_group))?;
+    put(&mut members, alloc, "group", group)?;
+    put(&mut members, alloc, "made", Value::from(split.made.0))?;
     let modules = modules_value(alloc, split)?;
-    let key = key_of(config, split.cache_group);
-    json!(in alloc; {"chunks": chunks, "forced": split.forced, "group": key, "made": split.made.0, "modules": modules, "reused": split.reused})
+    put(&mut members, alloc, "modules", modules)?;
+    put(&mut members, alloc, "reused", Value::Bool(split.reused))?;
+    Ok(Value::Object(members))
 }
 
 /// The splits, in the order in which they were made.

@@ -1,9 +1,9 @@
-ghost use Rattle.std.specs.Prelude.{◌≡◌};
+ghost use Rattle.std.specs.Prelude.{◌≡◌, ◌<◌};
+ghost use Rattle.claim_board.specs.Claims.{IsSeatOf, board_files};
 
-use crate::draws::fail;
-use claim_board::{Claim, ClaimBoard, Look};
-use fault_place::{Bytes, FileId, Seq, Text};
+use claim_board::{Claim, ClaimBoard, ClaimSeat, Look};
 use graph_types::{ModKind, ModRecord};
+use pack_util::{Bytes, FileId, Seq, Text};
 use std::alloc::Global;
 use std::test::*;
 
@@ -27,35 +27,36 @@ pub(crate) fn record(alloc: Global, file: u32) -> ModRecord
     }
 }
 
-#[test]
-fn two_seats_and_one_file(rt: HostRuntime) -> Result<(), Fail> {
+/// How a seat sees the first file before another seat claims it, before that publishes its record, and after. None where the
+/// claim is not the first.
+fn looks(
+    board: &ClaimBoard,
+    alloc: Global,
+    seat: &mut ClaimSeat,
+    other: &mut ClaimSeat,
+) -> Option<(Look, Look, Look)>
+    requires seat { IsSeatOf board.now seat.old }
+    requires other { IsSeatOf board.now other.old }
+    requires file { 0 < board_files board.now }
+{
     let file = FileId(0);
+    let before = board.look(seat, file);
+    let Claim::New(ticket) = board.claim(other, file) else {
+        return None;
+    };
+    let claimed = board.look(seat, file);
+    board.publish(other, ticket, record(alloc, 0));
+    Some((before, claimed, board.look(seat, file)))
+}
+
+#[test]
+fn a_seat_sees_what_another_does(rt: HostRuntime) -> Result<(), Fail> {
     let (board, mut dealt) = ClaimBoard::new(rt.alloc(), 1, 2)?;
-    let Some(mut second) = dealt.pop() else {
-        return fail(&rt);
+    let (Some(mut second), Some(mut first)) = (dealt.pop(), dealt.pop()) else {
+        return Err(Fail::from("not two seats"));
     };
-    let Some(mut first) = dealt.pop() else {
-        return fail(&rt);
-    };
-    assert_eq!(rt; board.look(&mut first, file), Look::Free);
-    let Claim::New(ticket) = board.claim(&mut second, file) else {
-        return fail(&rt);
-    };
-    assert_eq!(rt; board.look(&mut first, file), Look::Claimed(1));
-    assert_eq!(rt; board.look(&mut second, file), Look::Claimed(1));
-    board.publish(&mut second, ticket, record(rt.alloc(), 0));
-    assert_eq!(rt; board.look(&mut first, file), Look::Published(1));
-    assert_eq!(rt; board.look(&mut second, file), Look::Published(1));
-    assert!(rt; matches!(board.claim(&mut first, file), Claim::Known(1)));
-    assert!(rt; matches!(board.claim(&mut second, file), Claim::Known(1)));
-    let mut seats = Vec::new(rt.alloc());
-    seats.push(first)?;
-    seats.push(second)?;
-    let Ok((owners, records)) = board.close(rt.alloc(), seats) else {
-        return fail(&rt);
-    };
-    assert_eq!(rt; owners.owner(file), Some(1));
-    assert_eq!(rt; records.len(), 1);
-    assert!(rt; records[0] == Some(record(rt.alloc(), 0)));
+    let looks = looks(&board, rt.alloc(), &mut first, &mut second);
+    let want = (Look::Free, Look::Claimed(1), Look::Published(1));
+    assert!(rt; looks == Some(want));
     Ok(())
 }

@@ -79,27 +79,23 @@ fn draw_both<R: Threads + Sync>(
     Ok((one?, other?))
 }
 
+/// Whether these are all positions in order.
+fn are_all(positions: &[u32]) -> bool {
+    positions.iter().copied().eq(0..POSITIONS)
+}
+
 #[test]
 fn two_threads_draw_each_position_once(rt: HostRuntime) -> Result<(), Fail> {
     let (board, mut first) = DrawBoard::new(rt.alloc(), POSITIONS, 2 * HALF)?;
     let second = first.split_off(HALF as usize)?;
-    let (one, other) = draw_both(&rt, &board, rt.alloc(), first, second)?;
+    let (one, mut other) = draw_both(&rt, &board, rt.alloc(), first, second)?;
     let Drawn {
         mut seats,
         mut positions,
     } = one;
-    let Drawn {
-        seats: mut more,
-        positions: mut rest,
-    } = other;
-    seats.append(&mut more)?;
-    assert_eq!(rt; board.close(seats), POSITIONS);
-    positions.append(&mut rest)?;
+    seats.append(&mut other.seats)?;
+    positions.append(&mut other.positions)?;
     positions.sort_unstable();
-    let mut all = Vec::new(rt.alloc());
-    for position in 0..POSITIONS {
-        all.push(position)?;
-    }
-    assert!(rt; positions == all);
+    assert!(rt; board.close(seats) == POSITIONS && are_all(&positions));
     Ok(())
 }

@@ -6,6 +6,4 @@ mod claims;
 #[cfg(test)]
 mod draw_threads;
 #[cfg(test)]
-mod draws;
-#[cfg(test)]
 mod threads;

@@ -3,9 +3,9 @@ ghost use Rattle.std.specs.Prelude.{◌≡◌, ◌+◌, ◌<◌, ◌^◌, false,
 ghost use Rattle.claim_board.specs.Claims.{AreSeatsFrom, IsSameSeat, IsSeatOf, board_files};
 
 use crate::claims::record;
-use crate::draws::fail;
-use claim_board::{Claim, ClaimBoard, ClaimSeat};
-use fault_place::FileId;
+use claim_board::{Claim, ClaimBoard, ClaimSeat, Owners};
+use graph_types::ModRecord;
+use pack_util::FileId;
 use std::alloc::{AllocError, Global};
 use std::test::*;
 use std::thread;
@@ -112,27 +112,44 @@ fn work_both<R: Threads + Sync>(
     Ok((one?, other?))
 }
 
+/// Whether each seat was told the owner that the closed board has.
+fn are_told(owners: &Owners, told: &[(u32, u32)]) -> bool
+    requires { length owners.now ≡ FILES }
+{
+    for (file, owner) in told {
+        if *file >= FILES || owners.owner(FileId(*file)) != Some(*owner) {
+            return false;
+        }
+    }
+    true
+}
+
+/// Whether each file has its record.
+fn are_published(alloc: Global, records: &[Option<ModRecord>]) -> bool {
+    for file in 0..FILES {
+        match records.get(file as usize) {
+            Some(Some(published)) if *published == record(alloc, file) => {}
+            _ => return false,
+        }
+    }
+    true
+}
+
 #[test]
 fn two_threads_claim_and_publish(rt: HostRuntime) -> Result<(), Fail> {
     let (board, mut first) = ClaimBoard::new(rt.alloc(), FILES, 2 * HALF)?;
     let second = first.split_off(HALF as usize)?;
-    let (one, other) = work_both(&rt, &board, rt.alloc(), first, second)?;
-    let Done { mut seats, told } = one;
+    let (one, mut other) = work_both(&rt, &board, rt.alloc(), first, second)?;
     let Done {
-        seats: mut more,
-        told: also_told,
-    } = other;
-    seats.append(&mut more)?;
+        mut seats,
+        mut told,
+    } = one;
+    seats.append(&mut other.seats)?;
+    told.append(&mut other.told)?;
     let Ok((owners, records)) = board.close(rt.alloc(), seats) else {
-        return fail(&rt);
+        return Err(Fail::from("the board was not closed"));
     };
-    assert_eq!(rt; told.len() + also_told.len(), (FILES * 2 * HALF) as usize);
-    for (file, owner) in told.iter().chain(also_told.iter()) {
-        assert!(rt; *file < FILES);
-        assert_eq!(rt; owners.owner(FileId(*file)), Some(*owner));
-    }
-    for file in 0..FILES {
-        assert!(rt; records[file as usize] == Some(record(rt.alloc(), file)));
-    }
+    let are_all = told.len() == (FILES * 2 * HALF) as usize;
+    assert!(rt; are_all && are_told(&owners, &told) && are_published(rt.alloc(), &records));
     Ok(())
 }

@@ -4,8 +4,9 @@ ghost use Rattle.tree_listing.specs.inner.Split.{IsSplit};
 
 use crate::ListEnd;
 use crate::listed_file::ListedFile;
-use fault_place::{Limit, NoMemory, Text};
+use fault_place::Limit;
 use outside::{DirEntry, EntryKind};
+use pack_util::{NoMemory, Text};
 use path_text::{child, is_segment};
 use std::alloc::Global;
 

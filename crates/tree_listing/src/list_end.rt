@@ -7,7 +7,7 @@ use outside::OutsideEnd;
 use std::alloc::{AllocError, AllocFailed};
 
 /// Why a tree has no listing.
-#[derive(Clone, Copy, Debug, PartialEq, Eq)]
+#[derive(Clone, Copy, PartialEq, Eq)]
 pub enum ListEnd {
     /// A folder could not be listed, and the reader's count of faults rose.
     Failed,

@@ -3,7 +3,7 @@ ghost use Rattle.std.specs.Cmp.Lexicographic.{pointwise, slice_cmp, texts_po, te
 ghost use Rattle.std.specs.Cmp.{on_po, partial_equiv_from_equiv};
 ghost use Rattle.std.specs.Ordering.{nat_cmp, as_partial_cmp};
 
-use fault_place::Text;
+use pack_util::Text;
 use std::cmp::Ordering;
 use std::marker::Model;
 

@@ -9,7 +9,7 @@ ghost use Rattle.tree_listing.specs.Listing.{IsListing, path_at, length_at, numb
 use crate::ListEnd;
 use crate::kept::{Kept, split};
 use crate::listed_file::ListedFile;
-use fault_place::{FileId, NoMemory, Text};
+use pack_util::{FileId, NoMemory, Text};
 use std::alloc::Global;
 use std::cmp::Ordering;
 use std::marker::Model;

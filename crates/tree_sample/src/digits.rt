@@ -2,7 +2,7 @@
 ghost use Rattle.std.specs.Prelude.{◌≡◌, ◌++◌, ◌+◌, ◌<◌, ◌∷◌, [], string_bytes, OnOk};
 ghost use Rattle.tree_sample.specs.Sample.{digits};
 
-use fault_place::NoMemory;
+use pack_util::NoMemory;
 
 /// Appends the last so many digits of a number.
 fn push_digits(text: &mut String, count: u32, number: u32) -> Result<(), NoMemory>

@@ -3,7 +3,7 @@ ghost use Rattle.std.specs.Prelude.{◌≡◌, ◌++◌, ◌<◌, ◌≤◌, str
 ghost use Rattle.tree_sample.specs.Sample.{library_line, load_line, module_line, module_text, third_line};
 
 use crate::digits::push_numbered;
-use fault_place::NoMemory;
+use pack_util::NoMemory;
 use std::alloc::Global;
 
 /// The text of module `i` of `n`.

@@ -9,8 +9,8 @@ ghost use Rattle.tree_sample.specs.declared.sample_end.SampleEnd.TheVariants.{No
 use crate::SampleEnd;
 use crate::digits::push_numbered;
 use crate::module::module_text;
-use fault_place::NoMemory;
 use outside::MemTree;
+use pack_util::NoMemory;
 use std::alloc::{AllocError, Global};
 
 /// How many modules a sample may have.

@@ -4,7 +4,7 @@ ghost use Rattle.tree_sample.specs.declared.sample_end.SampleEnd.TheVariants.{No
 use std::alloc::{AllocError, AllocFailed};
 
 /// Why there is no sample.
-#[derive(Clone, Copy, Debug, PartialEq, Eq)]
+#[derive(Clone, Copy, PartialEq, Eq)]
 pub enum SampleEnd {
     /// A sample has 1 to 20,000 modules.
     OutOfRange,

@@ -9,7 +9,7 @@ use Rattle.draw_board.specs.Draws.{IsNewSeat, drawn, has_drawn_none}
 use Rattle.draw_board.specs.Draws as draw
 use Rattle.draw_board.specs.declared.board.DrawBoard.{DrawBoard}
 use Rattle.draw_board.specs.declared.seat.DrawSeat.{DrawSeat}
-use Rattle.fault_place.specs.declared.number.FileId.{FileId}
+use Rattle.pack_util.specs.declared.number.FileId.{FileId}
 use Rattle.graph_types.specs.Modules.{file_id}
 use Rattle.graph_types.specs.declared.config.Config.{Config}
 use Rattle.graph_types.specs.declared.record.ModRecord.{ModRecord}

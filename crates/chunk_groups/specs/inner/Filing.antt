@@ -1,6 +1,6 @@
 -- Blocks filed one after another in the groups that they load (this project).
 use Rattle.std.specs.Prelude.{◌≡◌, ◌≢◌, ℕ, ◌<◌, List, [], ◌∷◌, ◌++◌, length, take, slice_index_or}
-use Rattle.fault_place.specs.declared.number.ModuleNo.{ModuleNo}
+use Rattle.pack_util.specs.declared.number.ModuleNo.{ModuleNo}
 use Rattle.graph_types.specs.declared.block.Block.{Block}
 use Rattle.graph_types.specs.declared.entry.EntrySpec.{EntrySpec}
 use Rattle.graph_types.specs.declared.groups.GroupInfo.{GroupInfo}

@@ -1,7 +1,7 @@
 -- How modules are marked that are reached, while some of them wait for their targets to be marked (this project).
 use Rattle.std.specs.Prelude.{◌≡◌, ◌↔◌, ℕ, ◌+◌, ◌⊎◌, Bool, not, List, length, IsTrue, Contains}
 use Rattle.std.specs.List.{count_by}
-use Rattle.fault_place.specs.declared.number.ModuleNo.{ModuleNo}
+use Rattle.pack_util.specs.declared.number.ModuleNo.{ModuleNo}
 use Rattle.graph_types.specs.Modules.{module_no}
 use Rattle.graph_types.specs.Reached.{Walk}
 use Rattle.chunk_groups.specs.Rows.{bit}

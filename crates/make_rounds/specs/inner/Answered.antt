@@ -2,7 +2,7 @@
 use Rattle.std.specs.Prelude.{◌≡◌, ℕ, List, map, filter_map, Option, Result, Vec, IfOk}
 use Rattle.std.specs.declared.alloc.Global.{Global}
 use Rattle.fault_place.specs.declared.fault.Fault.{Fault}
-use Rattle.fault_place.specs.declared.number.FileId.{FileId}
+use Rattle.pack_util.specs.declared.number.FileId.{FileId}
 use Rattle.graph_types.specs.declared.config.Config.{Config}
 use Rattle.graph_types.specs.declared.entry.EntryFile.{EntryFile}
 use Rattle.graph_types.specs.declared.entry.EntrySpec.{EntrySpec}

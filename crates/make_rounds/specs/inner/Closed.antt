@@ -5,7 +5,7 @@ use Rattle.claim_board.specs.declared.seat.ClaimSeat.{ClaimSeat}
 use Rattle.fault_place.specs.Limit.{number_of}
 use Rattle.fault_place.specs.declared.fault.Fault.{Fault}
 use Rattle.fault_place.specs.declared.limit.Limit.{Limit}
-use Rattle.fault_place.specs.declared.number.FileId.{FileId}
+use Rattle.pack_util.specs.declared.number.FileId.{FileId}
 use Rattle.graph_types.specs.Modules.{AreAscending, Graph, module_of}
 use Rattle.graph_types.specs.declared.record.ModRecord.{ModRecord}
 use Rattle.make_rounds.specs.Counts.{counted}

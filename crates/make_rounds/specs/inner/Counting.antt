@@ -3,7 +3,7 @@ use Rattle.std.specs.Prelude.{ℕ, ◌+◌, ◌<◌, ◌≤◌, List, length, na
 use Rattle.fault_place.specs.Limit.{number_of}
 use Rattle.fault_place.specs.declared.limit.Limit.{Limit}
 use Rattle.fault_place.specs.declared.limit.Limit.TheVariants.{Modules, TextBytes, Items, Blocks}
-use Rattle.fault_place.specs.declared.limit.TheConstants.{MAX_TEXT}
+use Rattle.pack_util.specs.declared.number.TheConstants.{MAX_TEXT}
 use Rattle.graph_types.specs.declared.record.ModRecord.{ModRecord}
 use Rattle.make_rounds.specs.Counts.{counted, lazy_items}
 use Rattle.make_rounds.specs.declared.counts.Counts.{Counts}

@@ -1,6 +1,6 @@
 -- What the first of the readers is asked while the others rest, and what each reader keeps (this project).
 use Rattle.std.specs.Prelude.{◌≡◌, ℕ, List, [], ◌∷◌, Result}
-use Rattle.fault_place.specs.declared.limit.TheConstants.{MAX_TEXT}
+use Rattle.pack_util.specs.declared.number.TheConstants.{MAX_TEXT}
 use Rattle.outside.specs.Reads.{ReadsPath}
 use Rattle.outside.specs.Tree.{Told}
 use Rattle.outside.specs.Views.{Keeps, ReaderView}

@@ -1,7 +1,7 @@
 -- The groups that modules load, by their blocks so far (this project).
 use Rattle.std.specs.Prelude.{ℕ, List, map, filter_map, take, length}
 use Rattle.std.specs.List.{enumerate_from, range_with_len}
-use Rattle.fault_place.specs.declared.number.GroupNo.{GroupNo}
+use Rattle.pack_util.specs.declared.number.GroupNo.{GroupNo}
 use Rattle.graph_types.specs.declared.record.ModRecord.{ModRecord}
 use Rattle.graph_types.specs.Edges.{blocks_of}
 use Rattle.stats_text.specs.Lists.{group_loaded, loaded_groups}

@@ -7,7 +7,7 @@ use Rattle.claim_board.specs.Claims.{IsSeatOf}
 use Rattle.claim_board.specs.declared.seat.ClaimSeat.{ClaimSeat}
 use Rattle.draw_board.specs.Draws.{AreSeatsFrom, Closes, IsNewSeat, board_len}
 use Rattle.draw_board.specs.declared.seat.DrawSeat.{DrawSeat}
-use Rattle.fault_place.specs.declared.number.FileId.{FileId}
+use Rattle.pack_util.specs.declared.number.FileId.{FileId}
 use Rattle.resolve_path.specs.declared.kept.KeptManifest.{KeptManifest}
 use Rattle.build_round.specs.Readers.{AllTell, SomeRose}
 use Rattle.build_round.specs.Rounds.{IsDone, Wins, WorksOn, workers_of}

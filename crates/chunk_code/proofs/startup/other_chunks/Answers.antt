@@ -1,7 +1,7 @@
 use Rattle.std.proofs.Common.{◌==◌, not, rules, ap, ◌∙◌}
 use Rattle.std.proofs.lemmas.Fn.{filter_same}
 use Rattle.std.specs.Prelude.{filter}
-use Rattle.fault_place.specs.declared.number.ChunkNo.{ChunkNo}
+use Rattle.pack_util.specs.declared.number.ChunkNo.{ChunkNo}
 use Rattle.chunk_code.proofs.startup.other_chunks.Goals as goal
 
 pub returns : goal.returns

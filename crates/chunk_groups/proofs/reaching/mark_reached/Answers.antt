@@ -1,6 +1,6 @@
 use Rattle.std.proofs.Common.{◌<◌, [], List, length, ap, subst, ◌∙◌, arith}
 use Rattle.std.proofs.lemmas.List.{length-replicate}
-use Rattle.fault_place.specs.declared.number.ModuleNo.{ModuleNo}
+use Rattle.pack_util.specs.declared.number.ModuleNo.{ModuleNo}
 use Rattle.chunk_groups.specs.Grouped.{numbers, targets_at}
 use Rattle.chunk_groups.specs.inner.Marking.{IsMarked}
 use Rattle.chunk_groups.proofs.Marks.{marking-starts, visited, waiting-within, all-marked, none-left}

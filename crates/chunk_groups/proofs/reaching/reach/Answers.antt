@@ -1,7 +1,7 @@
 use Rattle.std.proofs.Common.{◌<◌, List, length, ap, subst, ◌∙◌, arith}
 use Rattle.std.proofs.lemmas.List.Elements.{All-same}
 use Rattle.bit_rows.specs.Table.{blank}
-use Rattle.fault_place.specs.declared.number.ModuleNo.{ModuleNo}
+use Rattle.pack_util.specs.declared.number.ModuleNo.{ModuleNo}
 use Rattle.chunk_groups.specs.Grouped.{info_at, no_group, numbers, targets_at}
 use Rattle.chunk_groups.specs.inner.Marking.{HasReached}
 use Rattle.chunk_groups.proofs.Filled.{fresh-filled, filled-more, all-filled}

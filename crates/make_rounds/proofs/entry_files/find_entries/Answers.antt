@@ -1,7 +1,7 @@
 use Rattle.std.proofs.Common.{◌<◌, length, map, sym, ap, subst, ◌∙◌}
 use Rattle.std.specs.List.{AllByRecursion}
 use Rattle.std.specs.Prelude.{flat_map}
-use Rattle.fault_place.specs.declared.number.FileId.{FileId}
+use Rattle.pack_util.specs.declared.number.FileId.{FileId}
 use Rattle.make_rounds.specs.Entries.{root_naming}
 use Rattle.make_rounds.specs.inner.Answered.{answer_faults, named_files, numbers_of}
 use Rattle.make_rounds.proofs.Answers.{all_within, faults_are, files_are}

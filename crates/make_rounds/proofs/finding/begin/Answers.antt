@@ -3,7 +3,7 @@ use Rattle.std.proofs.lemmas.List.{length-replicate}
 use Rattle.std.proofs.lemmas.Result.{err_from_is_err_and}
 use Rattle.std.specs.List.{AllByRecursion}
 use Rattle.claim_board.specs.Claims.{AreNew}
-use Rattle.fault_place.specs.declared.number.FileId.{FileId}
+use Rattle.pack_util.specs.declared.number.FileId.{FileId}
 use Rattle.resolve_path.specs.Caches.{AreTrue}
 use Rattle.make_rounds.specs.inner.Growing.{HasReadNone}
 use Rattle.make_rounds.proofs.Lists.{all-flat, all-replicate}

@@ -1,6 +1,6 @@
 use Rattle.std.proofs.Common.{List, flat_map, ap, ◌∙◌, arith}
 use Rattle.std.proofs.lemmas.List.{take_all}
-use Rattle.fault_place.specs.declared.number.FileId.{FileId}
+use Rattle.pack_util.specs.declared.number.FileId.{FileId}
 use Rattle.make_rounds.proofs.finding.first_files.Goals as goal
 
 pub returns : goal.returns

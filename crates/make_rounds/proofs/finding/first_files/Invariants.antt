@@ -1,5 +1,5 @@
 use Rattle.std.proofs.Common.{◌≡◌, List, flat_map, take}
-use Rattle.fault_place.specs.declared.number.FileId.{FileId}
+use Rattle.pack_util.specs.declared.number.FileId.{FileId}
 use Rattle.make_rounds.proofs.finding.first_files.Given as goal
 
 abbrev pub invariant-loop-entry : goal.invariant-loop-entry

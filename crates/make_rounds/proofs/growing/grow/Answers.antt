@@ -5,7 +5,7 @@ use Rattle.std.proofs.lemmas.Result.{err_from_is_err_and}
 use Rattle.std.specs.List.{AllByRecursion}
 use Rattle.build_round.specs.Rounds.{Wins}
 use Rattle.claim_board.specs.declared.seat.ClaimSeat.{ClaimSeat}
-use Rattle.fault_place.specs.declared.number.FileId.{FileId}
+use Rattle.pack_util.specs.declared.number.FileId.{FileId}
 use Rattle.outside.specs.declared.outside_end.OutsideEnd.TheVariants.{NoMemory}
 use Rattle.make_rounds.specs.inner.Answered.{numbers_of}
 use Rattle.make_rounds.specs.inner.Found.{marked}

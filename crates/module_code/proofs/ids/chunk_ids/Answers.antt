@@ -1,7 +1,7 @@
 use Rattle.std.proofs.Common.{◌≡◌, ◌+◌, ◌++◌, None, get_or, take, sym, ap, ◌∙◌}
 use Rattle.std.specs.Prelude.{filter_map, option_to_list}
 use Rattle.chunk_graph.specs.Moves.{chunk_no, id_of}
-use Rattle.fault_place.specs.declared.number.ChunkNo.{ChunkNo}
+use Rattle.pack_util.specs.declared.number.ChunkNo.{ChunkNo}
 use Rattle.graph_types.proofs.Numbering.{filter_map-next}
 use Rattle.module_code.proofs.IdTable.{id_in_table}
 use Rattle.module_code.proofs.ids.chunk_ids.Goals as goal

@@ -1,7 +1,7 @@
 use Rattle.std.proofs.Common.{◌≡◌, ◌+◌, ◌++◌, take, sym, ap, ◌∙◌}
 use Rattle.std.specs.Prelude.{filter_map, option_to_list, Option, ℕ}
 use Rattle.chunk_graph.specs.Moves.{chunk_no, id_of}
-use Rattle.fault_place.specs.declared.number.ChunkNo.{ChunkNo}
+use Rattle.pack_util.specs.declared.number.ChunkNo.{ChunkNo}
 use Rattle.graph_types.proofs.Numbering.{filter_map-next}
 use Rattle.stats_text.proofs.Lists.{added}
 use Rattle.stats_text.proofs.ids.group_ids.Goals as goal

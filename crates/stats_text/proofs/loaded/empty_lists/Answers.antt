@@ -1,6 +1,6 @@
 use Rattle.std.proofs.Common.{[], List}
 use Rattle.chunk_graph.proofs.Lists.{push_range}
-use Rattle.fault_place.specs.declared.number.GroupNo.{GroupNo}
+use Rattle.pack_util.specs.declared.number.GroupNo.{GroupNo}
 use Rattle.stats_text.proofs.loaded.empty_lists.Goals as goal
 
 pub loop-preserved : goal.loop-preserved

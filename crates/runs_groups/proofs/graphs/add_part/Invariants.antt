@@ -1,5 +1,0 @@
-use Rattle.runs_groups.specs.Small.{AreGood}
-use Rattle.runs_groups.proofs.graphs.add_part.Given as goal
-
-abbrev pub invariant-loop : goal.invariant-loop
-invariant-loop l = AreGood l.size l.items.items

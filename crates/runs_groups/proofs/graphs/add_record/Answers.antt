@@ -1,9 +1,0 @@
-use Rattle.std.proofs.Common.{◌<◌, length, arith}
-use Rattle.runs_groups.proofs.Few.{small-more}
-use Rattle.runs_groups.proofs.graphs.add_record.Goals as goal
-
-pub returns : goal.returns
-returns c =
-    let room : length c.args.records.now.items < 16 = omega (arith, c.requires.room) in
-    let more = small-more c.args.records.now.items c.in_ok-rec.rec c.requires.small room (omega (arith, c.in_ok-rec.ensures.file)) c.in_ok-rec.ensures.small in
-    rw c.in_ok-push.ensures.items more

@@ -1,5 +1,0 @@
-use Rattle.runs_groups.specs.Small.{AreGood}
-use Rattle.runs_groups.proofs.graphs.items.Given as goal
-
-abbrev pub invariant-loop-part : goal.invariant-loop-part
-invariant-loop-part l = AreGood l.size l.items.items

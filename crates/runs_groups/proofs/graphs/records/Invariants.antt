@@ -1,5 +1,0 @@
-use Rattle.runs_groups.specs.Small.{AreSmall}
-use Rattle.runs_groups.proofs.graphs.records.Given as goal
-
-abbrev pub invariant-loop-word : goal.invariant-loop-word
-invariant-loop-word l = AreSmall l.records.items
